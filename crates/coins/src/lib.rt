@@ -1,0 +1,3 @@
+// Outpoints with their order, locks and coins.
+pub mod coin;
+pub mod outpoint;
