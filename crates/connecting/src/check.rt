@@ -2,11 +2,11 @@
 use crate::fault::BlockFault;
 use crate::fault::TransactionFault;
 use crate::fault::at_transaction;
-use blockform::Block;
-use blockform::Item;
-use blockform::Items;
-use blockform::Transaction;
-use blockform::Transactions;
+use blockform::reader::Block;
+use blockform::reader::Item;
+use blockform::reader::Items;
+use blockform::reader::Transaction;
+use blockform::reader::Transactions;
 use coins::coin::MAX_VALUE;
 use coins::outpoint::Outpoint;
 

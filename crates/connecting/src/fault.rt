@@ -2,11 +2,11 @@
 ghost use mathlib.Core.Path.{_≡_};
 ghost use Rattle.std.specs.Results.{Cases};
 ghost use Rattle.std.specs.declared.result.Result.the-variants.{Ok, Err};
-ghost use Rattle.connecting.specs.Refusals.{block-refusal};
+ghost use Rattle.connecting.specs.Refusals.{input-reason, placed as placedAt, transaction-refusal, block-refusal};
 ghost use Rattle.connecting.specs.declared.fault.InputFault.the-variants.{View as OfView};
 ghost use Rattle.connecting.specs.declared.fault.TransactionFault.the-variants.{Item as AtItem};
 ghost use Rattle.connecting.specs.declared.fault.BlockFault.the-variants.{Form as OfForm, Transaction as AtTransaction};
-use blockform::FormFault;
+use blockform::fault::FormFault;
 use coinsview::fault::ViewFault;
 use refusal::Reason;
 use refusal::Refusal;
@@ -87,7 +87,9 @@ pub fn at_transaction<X>(
 }
 
 impl InputFault {
-    pub fn reason(self) -> Reason {
+    pub fn reason(self) -> Reason
+        ensures { λ r. ⌜ r ≡ input-reason self ⌝ }
+    {
         match self {
             InputFault::Missing => Reason::Missing,
             InputFault::Immature => Reason::Immature,
@@ -97,7 +99,9 @@ impl InputFault {
     }
 }
 
-fn placed(reason: Reason, first: usize, second: usize) -> Refusal {
+fn placed(reason: Reason, first: usize, second: usize) -> Refusal
+    ensures { λ r. ⌜ r ≡ placedAt reason first second ⌝ }
+{
     Refusal {
         reason,
         first: first as u64,
@@ -107,7 +111,9 @@ fn placed(reason: Reason, first: usize, second: usize) -> Refusal {
 
 impl TransactionFault {
     // The refusal, for the transaction at place `t` of its block.
-    pub fn refusal(self, t: usize) -> Refusal {
+    pub fn refusal(self, t: usize) -> Refusal
+        ensures { λ r. ⌜ r ≡ transaction-refusal t self ⌝ }
+    {
         match self {
             TransactionFault::Coinbase2 => placed(Reason::Coinbase2, t, 0),
             TransactionFault::CbData => placed(Reason::CbData, t, 0),

@@ -8,7 +8,7 @@ use crate::Tip;
 use crate::fault::LedgerFault;
 use crate::fault::LedgerFromBlock;
 use crate::terms::Terms;
-use blockform::Block;
+use blockform::reader::Block;
 use coins::coin::Coin;
 use coins::coin::Lock;
 use coins::coin::LockPartialEq;

@@ -1,5 +1,6 @@
 // Why a call on the ledger is refused.
 ghost use mathlib.Core.Path.{_≡_};
+ghost use Rattle.connecting.specs.Refusals.{placed};
 ghost use Rattle.ledger.specs.Refusals.{ledger-refusal};
 ghost use Rattle.ledger.specs.declared.fault.LedgerFault.the-variants.{Block as OfBlock};
 use connecting::fault::BlockFault;
@@ -24,7 +25,9 @@ pub impl From<BlockFault> for LedgerFault as LedgerFromBlock {
     }
 }
 
-fn bare(reason: Reason) -> Refusal {
+fn bare(reason: Reason) -> Refusal
+    ensures { λ r. ⌜ r ≡ placed reason 0 0 ⌝ }
+{
     Refusal {
         reason,
         first: 0,
