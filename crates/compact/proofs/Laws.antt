@@ -14,8 +14,8 @@ use Rattle.std.specs.declared.result.Result.{Result}
 use Rattle.std.specs.declared.result.Result.the-variants.{Ok, Err}
 use Rattle.compact.specs.declared.SizeFault.{SizeFault}
 use Rattle.compact.specs.declared.SizeFault.the-variants.{Cut, LongForm}
-use Rattle.compact.specs.Compact.{le, encode, two-at, four-at, eight-at, span, value, least, read-size, Bytes, Written-is-read, Read-is-written, One-encoding, Examples}
-use Rattle.compact.proofs.Parts.{encode-1, encode-2, encode-4, encode-8, one, two, four, eight}
+use Rattle.compact.specs.Compact.{le, encode, two-at, four-at, eight-at, span, value, least, read-size, Bytes, Written-is-read, Read-is-written, One-encoding, Small-is-a-byte, Nothing-is-cut, Examples}
+use Rattle.compact.proofs.Parts.{encode-1, encode-2, encode-4, encode-8, whole, one, two, four, eight}
 
 -- what a pattern `[.., rest @ ..]` with k names before the rest calls the rest
 pub rest-is : (k : ℕ) (s : List ℕ) → take (length s - k) (drop k s) ≡ drop k s
@@ -101,6 +101,19 @@ one-encoding n m t u hn hm e =
     let b = written-is-read m u hm in
     let p : _≡_ {A = Result (ℕ × List ℕ) SizeFault} (Ok (n, t)) (Ok (m, u)) = sym a ∙ ap read-size e ∙ b in
     same-parts n m t u p
+
+pub small-is-a-byte : Small-is-a-byte
+small-is-a-byte s n t l h =
+    let p = read-parts s n t h in
+    let low : least s ≤ n = omega (arith, p .1, p .2) in
+    let a : getD s 0 0 < 253 = grind (arith, tells) in
+    let m = marked-1 s a in
+    let e : s ≡ getD s 0 0 ∷ drop 1 s = whole 1 s (omega (arith, p .0, m .long)) in
+    e ∙ ap (λ x. x ∷ drop 1 s) (sym (p .2 ∙ m .is)) ∙ ap (λ u. n ∷ u) (sym (p .3 ∙ ap (λ j. drop j s) (m .long)))
+
+pub nothing-is-cut : Nothing-is-cut
+unfolding read-size
+nothing-is-cut = refl
 
 pub examples : Examples
 unfolding read-size

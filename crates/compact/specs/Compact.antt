@@ -61,6 +61,13 @@ Read-is-written = (s : List ℕ) (n : ℕ) (rest : List ℕ) → Bytes s → rea
 abbrev pub One-encoding : Type 0
 One-encoding = (n m : ℕ) (t u : List ℕ) → n < 2 ^ 64 → m < 2 ^ 64 → encode n ++ t ≡ encode m ++ u → (n ≡ m) × (t ≡ u)
 
+-- a number below 253 is read from its one byte alone, and no byte is no number
+abbrev pub Small-is-a-byte : Type 0
+Small-is-a-byte = (s : List ℕ) (n : ℕ) (rest : List ℕ) → n < 253 → read-size s ≡ Ok (n, rest) → s ≡ n ∷ rest
+
+abbrev pub Nothing-is-cut : Type 0
+Nothing-is-cut = read-size [] ≡ Err Cut
+
 -- 252 is FC, 253 is FD FD 00, and FD FC 00 is refused
 abbrev pub Examples : Type 0
 Examples = (encode 252 ≡ 252 ∷ []) × (encode 253 ≡ 253 ∷ 253 ∷ 0 ∷ []) × (read-size (253 ∷ 252 ∷ 0 ∷ []) ≡ Err LongForm)

@@ -5,7 +5,7 @@ ghost use Prim.Native.Nat.{ℕ, _<_, _^_};
 ghost use lib.ListN.{length, drop};
 ghost use Rattle.std.specs.Results.{Cases};
 ghost use Rattle.std.specs.declared.result.Result.the-variants.{Ok, Err};
-ghost use Rattle.compact.specs.Compact.{encode, read-size, Written-is-read, Read-is-written, One-encoding, Examples};
+ghost use Rattle.compact.specs.Compact.{encode, read-size, Written-is-read, Read-is-written, One-encoding, Small-is-a-byte, Nothing-is-cut, Examples};
 
 // Why no number is read: bytes are missing, or the form is not the shortest.
 #[derive(Clone, Copy, PartialEq, Eq, Debug)]
@@ -86,5 +86,7 @@ pub fn compact_sizes()
     ensures written { λ _. ⌜ Written-is-read ⌝ }
     ensures read { λ _. ⌜ Read-is-written ⌝ }
     ensures one { λ _. ⌜ One-encoding ⌝ }
+    ensures small { λ _. ⌜ Small-is-a-byte ⌝ }
+    ensures nothing { λ _. ⌜ Nothing-is-cut ⌝ }
     ensures examples { λ _. ⌜ Examples ⌝ }
 {}
