@@ -1,1 +1,3 @@
+pub mod Conserved
 pub mod Halvings
+pub mod Undone

@@ -1,3 +1,5 @@
 pub mod Refusals
 pub mod Rules
 pub mod Subsidy
+pub mod Undoing
+pub mod Value
