@@ -72,46 +72,47 @@ view-ok : {X : Type 0} (r : Result X ViewFault) (x : X) → of-view r ≡ Ok x �
 view-ok (Ok y) x h = let e : y ≡ x = cc in ap Ok e
 view-ok (Err f) x h = no-err _ x h
 
-module _ (s : Setting) (h : ℕ) where
-  pub spend-there : (w : Option Coin) (x : List ℕ) (c : Coin) → spend s h w x ≡ Ok c → w ≡ Some c
+module _ (opens : Lock → List ℕ → ℕ → Bool) (maturity h : ℕ) where
+  pub spend-there : (w : Option Coin) (x : List ℕ) (c : Coin) → spend opens maturity h w x ≡ Ok c → w ≡ Some c
   spend-there None x c e = no-err _ c e
   spend-there (Some d) x c e =
-      let a = test-ok (d .coinbase && ltb (h - d .height) (s .maturity)) _ _ c e in
-      go (s .opens (d .lock) x h) (a .1)
+      let a = test-ok (d .coinbase && ltb (h - d .height) maturity) _ _ c e in
+      go (opens (d .lock) x h) (a .1)
     where
       go : (b : Bool) → cond b (Ok d) (Err Shut) ≡ Ok c → Some d ≡ Some c
       go true e = ap Some (ok-same {F = InputFault} d c e)
       go false e = no-err _ c e
 
-  pub spend-all-value : (i : ℕ) (xs : List InputValue) (m : Coins) (p : ℕ) (n : Coins) (q : ℕ) → Sorted outpoints m → spend-all s h i xs m p ≡ Ok (n, q) → (value-in m + p ≡ value-in n + q) × Sorted outpoints n
+  pub spend-all-value : (i : ℕ) (xs : List InputValue) (m : Coins) (p : ℕ) (n : Coins) (q : ℕ) → Sorted outpoints m → spend-all opens maturity h i xs m p ≡ Ok (n, q) → (value-in m + p ≡ value-in n + q) × Sorted outpoints n
   spend-all-value i [] m p n q o e = let z : (m, p) ≡ (n, q) = ok-same {F = TransactionFault} _ _ e in (ap (λ x. value-in (x .0) + x .1) z, subst (λ x. Sorted outpoints (x .0)) z o)
   spend-all-value i (x ∷ xs) m p n q o e =
-      let a = then-ok (at-item i (spend s h (coin-at (x .outpoint) m) (x .witness))) _ (n, q) e in
+      let a = then-ok (at-item i (spend opens maturity h (coin-at (x .outpoint) m) (x .witness))) _ (n, q) e in
       let c = a .0 in
       let here : coin-at (x .outpoint) m ≡ Some c = spend-there (coin-at (x .outpoint) m) (x .witness) c (item-ok i _ c (a .1)) in
       let ih = spend-all-value (i + 1) xs (without (x .outpoint) m) (p + c .value) n q (sorted-remove outpoints (x .outpoint) m o) (a .2) in
       (omega (arith, value-without (x .outpoint) c m here, ih .0), ih .1)
 
+module _ (room h : ℕ) where
   coin-value : (y : OutputValue) (b : Bool) (d : ((leb (y .value) 2100000000000000 ≡ true) × (y .value ≤ 2100000000000000)) ⊎ ((leb (y .value) 2100000000000000 ≡ false) × (2100000000000000 < y .value))) (c : Coin) → coin-by (y .value) d (y .lock) h b ≡ Some c → c .value ≡ y .value
   coin-value y b (inl p) c e = let z : record { value = y .value; lock = y .lock; height = h; coinbase = b; money = p .1 } ≡ c = cc in ap (λ x. x .value) (sym z)
   coin-value y b (inr p) c e = let z : _≡_ {A = ℕ} 0 1 = cc in absurd (omega arith)
 
-  make-value : (id : List ℕ) (i : ℕ) (w : Option Coin) (m n : Coins) → Sorted outpoints m → make s h id i w m ≡ Ok n → (c : Coin) × (w ≡ Some c) × (value-in n ≡ c .value + value-in m) × Sorted outpoints n
+  make-value : (id : List ℕ) (i : ℕ) (w : Option Coin) (m n : Coins) → Sorted outpoints m → make room h id i w m ≡ Ok n → (c : Coin) × (w ≡ Some c) × (value-in n ≡ c .value + value-in m) × Sorted outpoints n
   make-value id i None m n o e = no-err _ n e
   make-value id i (Some c) m n o e =
       let k : Outpoint = record { id = id; index = i } in
-      let a = then-ok (at-item i (of-view (put-answer (s .room) k m))) _ n e in
-      let free : coin-at k m ≡ None = put-none (coin-at k m) _ (a .0) (view-ok (put-answer (s .room) k m) (a .0) (item-ok i _ (a .0) (a .1))) in
+      let a = then-ok (at-item i (of-view (put-answer room k m))) _ n e in
+      let free : coin-at k m ≡ None = put-none (coin-at k m) _ (a .0) (view-ok (put-answer room k m) (a .0) (item-ok i _ (a .0) (a .1))) in
       let z : with-coin k c m ≡ n = ok-same {F = TransactionFault} _ _ (a .2) in
       (c, refl, sym (ap value-in z) ∙ value-with k c m free, subst (Sorted outpoints) z (sorted-insert outpoints k c m o))
 
-  pub make-all-value : (id : List ℕ) (b : Bool) (i : ℕ) (ys : List OutputValue) (m n : Coins) → Sorted outpoints m → make-all s h id b i ys m ≡ Ok n → (value-in n + value-burned ys ≡ value-in m + worth ys) × Sorted outpoints n
+  pub make-all-value : (id : List ℕ) (b : Bool) (i : ℕ) (ys : List OutputValue) (m n : Coins) → Sorted outpoints m → make-all room h id b i ys m ≡ Ok n → (value-in n + value-burned ys ≡ value-in m + worth ys) × Sorted outpoints n
   make-all-value id b i [] m n o e = let z : m ≡ n = ok-same {F = TransactionFault} _ _ e in (ap (λ x. value-in x + 0) (sym z), subst (Sorted outpoints) z o)
   make-all-value id b i (y ∷ ys) m n o e =
-      let a = then-ok (cond (burns y) (Ok m) (make s h id i (coin-of y h b) m)) _ n e in
+      let a = then-ok (cond (burns y) (Ok m) (make room h id i (coin-of y h b) m)) _ n e in
       go (λ j u r. make-all-value id b (i + 1) ys j n u r) (burns y) refl (a .0) (a .1) (a .2)
     where
-      go : ((j : Coins) → Sorted outpoints j → make-all s h id b (i + 1) ys j ≡ Ok n → (value-in n + value-burned ys ≡ value-in j + worth ys) × Sorted outpoints n) → (t : Bool) → burns y ≡ t → (j : Coins) → cond t (Ok m) (make s h id i (coin-of y h b) m) ≡ Ok j → make-all s h id b (i + 1) ys j ≡ Ok n → (value-in n + value-burned (y ∷ ys) ≡ value-in m + worth (y ∷ ys)) × Sorted outpoints n
+      go : ((j : Coins) → Sorted outpoints j → make-all room h id b (i + 1) ys j ≡ Ok n → (value-in n + value-burned ys ≡ value-in j + worth ys) × Sorted outpoints n) → (t : Bool) → burns y ≡ t → (j : Coins) → cond t (Ok m) (make room h id i (coin-of y h b) m) ≡ Ok j → make-all room h id b (i + 1) ys j ≡ Ok n → (value-in n + value-burned (y ∷ ys) ≡ value-in m + worth (y ∷ ys)) × Sorted outpoints n
       go rest true t j p r =
           let z : m ≡ j = ok-same {F = TransactionFault} _ _ p in
           let ih = rest j (subst (Sorted outpoints) z o) r in
@@ -124,13 +125,14 @@ module _ (s : Setting) (h : ℕ) where
           let v : value-burned (y ∷ ys) ≡ value-burned ys = ap (λ x. cond x (y .value + value-burned ys) (value-burned ys)) t in
           (omega (arith, v, ih .0, w .2, c), ih .1)
 
+module _ (s : Setting) (h : ℕ) where
   pub spending-value : (x : TransactionValue) (m n : Coins) (a : Sums) → Sorted outpoints m → spending s h x m ≡ Ok (n, a) → (value-in n + a .fees + a .burned ≡ value-in m) × Sorted outpoints n
   spending-value x m n a o e =
-      let p = then-ok (spend-all s h 0 (x .inputs) m 0) _ (n, a) e in
+      let p = then-ok (spend-all (s .opens) (s .maturity) h 0 (x .inputs) m 0) _ (n, a) e in
       let t = test-ok (ltb (p .0 .1) (worth (x .outputs))) _ _ (n, a) (p .2) in
-      let q = then-ok (make-all s h (x .id) false 0 (x .outputs) (p .0 .0)) _ (n, a) (t .1) in
-      let v = spend-all-value 0 (x .inputs) m 0 (p .0 .0) (p .0 .1) o (p .1) in
-      let w = make-all-value (x .id) false 0 (x .outputs) (p .0 .0) (q .0) (v .1) (q .1) in
+      let q = then-ok (make-all (s .room) h (x .id) false 0 (x .outputs) (p .0 .0)) _ (n, a) (t .1) in
+      let v = spend-all-value (s .opens) (s .maturity) h 0 (x .inputs) m 0 (p .0 .0) (p .0 .1) o (p .1) in
+      let w = make-all-value (s .room) h (x .id) false 0 (x .outputs) (p .0 .0) (q .0) (v .1) (q .1) in
       let z = ok-same {F = TransactionFault} _ _ (q .2) in
       let enough : worth (x .outputs) ≤ p .0 .1 = ltb-false _ _ (t .0) in
       let fees : a .fees ≡ p .0 .1 - worth (x .outputs) = ap (λ r. r .1 .fees) (sym z) in
@@ -145,17 +147,17 @@ module _ (s : Setting) (h : ℕ) where
   spending-all-value t (x ∷ xs) m a n z o e =
       let p = then-ok (at-transaction t (spending s h x m)) _ (n, z) e in
       let v = spending-value x m (p .0 .0) (p .0 .1) o (transaction-ok t _ (p .0) (p .1)) in
-      let ih = spending-all-value (t + 1) xs (p .0 .0) (added s h a (p .0 .1)) n z (v .1) (p .2) in
+      let ih = spending-all-value (t + 1) xs (p .0 .0) (added a (p .0 .1)) n z (v .1) (p .2) in
       (omega (arith, v .0, ih .0), ih .1)
 
   -- the value of the coins, with what was burned, grows by the subsidy
   pub effect-value : (xs : List TransactionValue) (m n : Coins) (a : Sums) → Sorted outpoints m → effect s h xs m ≡ Ok (n, a) → (value-in n + a .burned ≡ value-in m + subsidy-at (s .halving) h) × Sorted outpoints n
   effect-value [] m n a o e = no-err _ (n, a) e
   effect-value (x ∷ xs) m n a o e =
-      let p = then-ok (at-transaction 0 (make-all s h (x .id) true 0 (x .outputs) m)) _ (n, a) e in
-      let v = make-all-value (x .id) true 0 (x .outputs) m (p .0) o (transaction-ok 0 _ (p .0) (p .1)) in
-      let q = then-ok (spending-all s h 1 xs (p .0) (none s h)) _ (n, a) (p .2) in
-      let w = spending-all-value 1 xs (p .0) (none s h) (q .0 .0) (q .0 .1) (v .1) (q .1) in
+      let p = then-ok (at-transaction 0 (make-all (s .room) h (x .id) true 0 (x .outputs) m)) _ (n, a) e in
+      let v = make-all-value (s .room) h (x .id) true 0 (x .outputs) m (p .0) o (transaction-ok 0 _ (p .0) (p .1)) in
+      let q = then-ok (spending-all s h 1 xs (p .0) none) _ (n, a) (p .2) in
+      let w = spending-all-value 1 xs (p .0) none (q .0 .0) (q .0 .1) (v .1) (q .1) in
       let t = test-ok (ltb (subsidy-at (s .halving) h + q .0 .1 .fees) (worth (x .outputs))) _ _ (n, a) (q .2) in
       let z = ok-same {F = BlockFault} _ _ (t .1) in
       let enough : worth (x .outputs) ≤ subsidy-at (s .halving) h + q .0 .1 .fees = ltb-false _ _ (t .0) in
