@@ -11,7 +11,7 @@ ghost use Rattle.maps.specs.Search.{Found};
 ghost use Rattle.coinsview.specs.Meaning.{coin-at, without, put-answer, put-map, next-in};
 ghost use Rattle.entries.specs.Entries.{with-entry};
 ghost use Rattle.cache.specs.Kept.{Kept, sorted-over};
-ghost use Rattle.cache.specs.Parts.{entries-of, map-of, InOrder};
+ghost use Rattle.cache.specs.Parts.{CacheOk, entries-of, below-of, room-of, map-of};
 ghost use Rattle.cache.specs.Rules.{with-room, below-with-room, put-entries, put-under, take-entries, take-under, look-entries, spilled-below};
 use crate::spill::put_dirty;
 use crate::spill::take_dirty;
@@ -38,7 +38,7 @@ impl<V: CoinsView + Drop> Cache<V> {
     // An empty cache over a view, or no memory for its entries.
     pub fn new(heap: Global, below: V) -> Result<Cache<V>, AllocError>
         requires { ⌜ V·CoinsView .ok below ⌝ }
-        ensures { λ r. ⌜ made r (λ c. V·CoinsView .ok (c .below) × InOrder (V·CoinsView .coins) (V·CoinsView .most) c × (c .below ≡ below) × (entries-of c ≡ []) × (map-of (V·CoinsView .coins) c ≡ V·CoinsView .coins below)) ⌝ }
+        ensures { λ r. ⌜ made r (λ c. CacheOk V·CoinsView c × (c .below ≡ below) × (entries-of c ≡ []) × (map-of V·CoinsView c ≡ V·CoinsView .coins below)) ⌝ }
     {
         let count = below.count();
         let table = EntryTable::new(heap)?;
@@ -53,14 +53,13 @@ impl<V: CoinsView + Drop> Cache<V> {
 impl<V: CoinsView> Cache<V> {
     // Writes the entries into the view below, and drops them.
     fn spill(&mut self)
-        requires ok { ⌜ V·CoinsView .ok (now self .below) ⌝ }
-        requires kept { ⌜ InOrder (V·CoinsView .coins) (V·CoinsView .most) (now self) ⌝ }
+        requires { ⌜ CacheOk V·CoinsView (now self) ⌝ }
         ensures ok { λ _. ⌜ V·CoinsView .ok (now (self .exit) .below) ⌝ }
-        ensures kept { λ _. ⌜ Kept [] (vec-cap (now (self .exit) .table .entries)) (now (self .exit) .count) (V·CoinsView .coins (now (self .exit) .below)) (V·CoinsView .most (now (self .exit) .below)) ⌝ }
+        ensures kept { λ _. ⌜ Kept [] (vec-cap (now (self .exit) .table .entries)) (now (self .exit) .count) (below-of V·CoinsView (now (self .exit))) (room-of V·CoinsView (now (self .exit))) ⌝ }
         ensures entries { λ _. ⌜ entries-of (now (self .exit)) ≡ [] ⌝ }
-        ensures written { λ _. ⌜ V·CoinsView .coins (now (self .exit) .below) ≡ spilled-below (entries-of (now (self .entry))) (V·CoinsView .coins (now (self .entry) .below)) ⌝ }
-        ensures map { λ _. ⌜ V·CoinsView .coins (now (self .exit) .below) ≡ map-of (V·CoinsView .coins) (now (self .entry)) ⌝ }
-        ensures fixed { λ _. ⌜ V·CoinsView .most (now (self .exit) .below) ≡ V·CoinsView .most (now (self .entry) .below) ⌝ }
+        ensures written { λ _. ⌜ below-of V·CoinsView (now (self .exit)) ≡ spilled-below (entries-of (now (self .entry))) (below-of V·CoinsView (now (self .entry))) ⌝ }
+        ensures map { λ _. ⌜ below-of V·CoinsView (now (self .exit)) ≡ map-of V·CoinsView (now (self .entry)) ⌝ }
+        ensures fixed { λ _. ⌜ room-of V·CoinsView (now (self .exit)) ≡ room-of V·CoinsView (now (self .entry)) ⌝ }
         ensures count { λ _. ⌜ now (self .exit) .count ≡ now (self .entry) .count ⌝ }
     {
         take_dirty(&mut self.below, self.table.entries.as_slice());
@@ -70,14 +69,13 @@ impl<V: CoinsView> Cache<V> {
 
     // One entry more, after a spill where there are 64.
     fn enter(&mut self, i: usize, at: Outpoint, entry: Entry)
-        requires ok { ⌜ V·CoinsView .ok (now self .below) ⌝ }
-        requires kept { ⌜ InOrder (V·CoinsView .coins) (V·CoinsView .most) (now self) ⌝ }
+        requires well { ⌜ CacheOk V·CoinsView (now self) ⌝ }
         requires here { ⌜ Found outpoints at (entries-of (now self)) (Err i) ⌝ }
         ensures ok { λ _. ⌜ V·CoinsView .ok (now (self .exit) .below) ⌝ }
         ensures held { λ _. ⌜ 64 ≤ vec-cap (now (self .exit) .table .entries) ⌝ }
         ensures entries { λ _. ⌜ entries-of (now (self .exit)) ≡ with-entry at entry (with-room (entries-of (now (self .entry)))) ⌝ }
-        ensures below { λ _. ⌜ V·CoinsView .coins (now (self .exit) .below) ≡ below-with-room (entries-of (now (self .entry))) (V·CoinsView .coins (now (self .entry) .below)) ⌝ }
-        ensures fixed { λ _. ⌜ V·CoinsView .most (now (self .exit) .below) ≡ V·CoinsView .most (now (self .entry) .below) ⌝ }
+        ensures below { λ _. ⌜ below-of V·CoinsView (now (self .exit)) ≡ below-with-room (entries-of (now (self .entry))) (below-of V·CoinsView (now (self .entry))) ⌝ }
+        ensures fixed { λ _. ⌜ room-of V·CoinsView (now (self .exit)) ≡ room-of V·CoinsView (now (self .entry)) ⌝ }
         ensures count { λ _. ⌜ now (self .exit) .count ≡ now (self .entry) .count ⌝ }
     {
         if self.table.entries.len() < MOST_ENTRIES {
@@ -90,11 +88,11 @@ impl<V: CoinsView> Cache<V> {
 }
 
 pub impl<V: CoinsView> CoinsView for Cache<V> as CacheView {
-    ghost ok = { λ s. V·CoinsView .ok (s .below) × InOrder (V·CoinsView .coins) (V·CoinsView .most) s };
+    ghost ok = { λ s. CacheOk V·CoinsView s };
 
-    ghost most = { λ s. V·CoinsView .most (s .below) };
+    ghost most = { λ s. room-of V·CoinsView s };
 
-    ghost coins = { λ s. map-of (V·CoinsView .coins) s };
+    ghost coins = { λ s. map-of V·CoinsView s };
 
     ghost bottom = { λ s. V·CoinsView .bottom (s .below) };
 
@@ -113,13 +111,13 @@ pub impl<V: CoinsView> CoinsView for Cache<V> as CacheView {
     }
 
     fn look(&mut self, at: &Outpoint) -> Option<Coin>
-        requires { ⌜ V·CoinsView .ok (now self .below) × InOrder (V·CoinsView .coins) (V·CoinsView .most) (now self) ⌝ }
-        ensures well { λ _. ⌜ V·CoinsView .ok (now (self .exit) .below) × InOrder (V·CoinsView .coins) (V·CoinsView .most) (now (self .exit)) ⌝ }
-        ensures fixed { λ _. ⌜ V·CoinsView .most (now (self .exit) .below) ≡ V·CoinsView .most (now (self .entry) .below) ⌝ }
-        ensures map { λ _. ⌜ map-of (V·CoinsView .coins) (now (self .exit)) ≡ map-of (V·CoinsView .coins) (now (self .entry)) ⌝ }
-        ensures value { λ r. ⌜ r ≡ coin-at (now (at .entry)) (map-of (V·CoinsView .coins) (now (self .entry))) ⌝ }
+        requires { ⌜ CacheOk V·CoinsView (now self) ⌝ }
+        ensures well { λ _. ⌜ CacheOk V·CoinsView (now (self .exit)) ⌝ }
+        ensures fixed { λ _. ⌜ room-of V·CoinsView (now (self .exit)) ≡ room-of V·CoinsView (now (self .entry)) ⌝ }
+        ensures map { λ _. ⌜ map-of V·CoinsView (now (self .exit)) ≡ map-of V·CoinsView (now (self .entry)) ⌝ }
+        ensures value { λ r. ⌜ r ≡ coin-at (now (at .entry)) (map-of V·CoinsView (now (self .entry))) ⌝ }
         ensures entries { λ r. ⌜ entries-of (now (self .exit)) ≡ look-entries r (now (at .entry)) (entries-of (now (self .entry))) ⌝ }
-        ensures below { λ _. ⌜ V·CoinsView .coins (now (self .exit) .below) ≡ V·CoinsView .coins (now (self .entry) .below) ⌝ }
+        ensures below { λ _. ⌜ below-of V·CoinsView (now (self .exit)) ≡ below-of V·CoinsView (now (self .entry)) ⌝ }
     {
         match self.table.find(at) {
             Ok(i) => {
@@ -147,13 +145,13 @@ pub impl<V: CoinsView> CoinsView for Cache<V> as CacheView {
     }
 
     fn next(&mut self, from: Option<&Outpoint>) -> Option<(Outpoint, Coin)>
-        requires { ⌜ V·CoinsView .ok (now self .below) × InOrder (V·CoinsView .coins) (V·CoinsView .most) (now self) ⌝ }
-        ensures well { λ _. ⌜ V·CoinsView .ok (now (self .exit) .below) × InOrder (V·CoinsView .coins) (V·CoinsView .most) (now (self .exit)) ⌝ }
-        ensures fixed { λ _. ⌜ V·CoinsView .most (now (self .exit) .below) ≡ V·CoinsView .most (now (self .entry) .below) ⌝ }
-        ensures map { λ _. ⌜ map-of (V·CoinsView .coins) (now (self .exit)) ≡ map-of (V·CoinsView .coins) (now (self .entry)) ⌝ }
-        ensures value { λ r. ⌜ r ≡ next-in (mapped now (from .entry)) (map-of (V·CoinsView .coins) (now (self .entry))) ⌝ }
+        requires { ⌜ CacheOk V·CoinsView (now self) ⌝ }
+        ensures well { λ _. ⌜ CacheOk V·CoinsView (now (self .exit)) ⌝ }
+        ensures fixed { λ _. ⌜ room-of V·CoinsView (now (self .exit)) ≡ room-of V·CoinsView (now (self .entry)) ⌝ }
+        ensures map { λ _. ⌜ map-of V·CoinsView (now (self .exit)) ≡ map-of V·CoinsView (now (self .entry)) ⌝ }
+        ensures value { λ r. ⌜ r ≡ next-in (mapped now (from .entry)) (map-of V·CoinsView (now (self .entry))) ⌝ }
         ensures entries { λ _. ⌜ entries-of (now (self .exit)) ≡ entries-of (now (self .entry)) ⌝ }
-        ensures below { λ _. ⌜ V·CoinsView .coins (now (self .exit) .below) ≡ V·CoinsView .coins (now (self .entry) .below) ⌝ }
+        ensures below { λ _. ⌜ below-of V·CoinsView (now (self .exit)) ≡ below-of V·CoinsView (now (self .entry)) ⌝ }
     {
         let start = self.table.above(from);
         next_over(
@@ -165,13 +163,13 @@ pub impl<V: CoinsView> CoinsView for Cache<V> as CacheView {
     }
 
     fn put(&mut self, at: Outpoint, coin: Coin) -> Result<(), ViewFault>
-        requires { ⌜ V·CoinsView .ok (now self .below) × InOrder (V·CoinsView .coins) (V·CoinsView .most) (now self) ⌝ }
-        ensures well { λ _. ⌜ V·CoinsView .ok (now (self .exit) .below) × InOrder (V·CoinsView .coins) (V·CoinsView .most) (now (self .exit)) ⌝ }
-        ensures fixed { λ _. ⌜ V·CoinsView .most (now (self .exit) .below) ≡ V·CoinsView .most (now (self .entry) .below) ⌝ }
-        ensures map { λ r. ⌜ map-of (V·CoinsView .coins) (now (self .exit)) ≡ put-map r at coin (map-of (V·CoinsView .coins) (now (self .entry))) ⌝ }
-        ensures value { λ r. ⌜ r ≡ put-answer (V·CoinsView .most (now (self .entry) .below)) at (map-of (V·CoinsView .coins) (now (self .entry))) ⌝ }
+        requires { ⌜ CacheOk V·CoinsView (now self) ⌝ }
+        ensures well { λ _. ⌜ CacheOk V·CoinsView (now (self .exit)) ⌝ }
+        ensures fixed { λ _. ⌜ room-of V·CoinsView (now (self .exit)) ≡ room-of V·CoinsView (now (self .entry)) ⌝ }
+        ensures map { λ r. ⌜ map-of V·CoinsView (now (self .exit)) ≡ put-map r at coin (map-of V·CoinsView (now (self .entry))) ⌝ }
+        ensures value { λ r. ⌜ r ≡ put-answer (room-of V·CoinsView (now (self .entry))) at (map-of V·CoinsView (now (self .entry))) ⌝ }
         ensures entries { λ r. ⌜ entries-of (now (self .exit)) ≡ put-entries r at coin (entries-of (now (self .entry))) ⌝ }
-        ensures below { λ r. ⌜ V·CoinsView .coins (now (self .exit) .below) ≡ put-under r at (entries-of (now (self .entry))) (V·CoinsView .coins (now (self .entry) .below)) ⌝ }
+        ensures below { λ r. ⌜ below-of V·CoinsView (now (self .exit)) ≡ put-under r at (entries-of (now (self .entry))) (below-of V·CoinsView (now (self .entry))) ⌝ }
     {
         match self.table.find(&at) {
             Ok(i) => {
@@ -209,13 +207,13 @@ pub impl<V: CoinsView> CoinsView for Cache<V> as CacheView {
     }
 
     fn take(&mut self, at: &Outpoint) -> Option<Coin>
-        requires { ⌜ V·CoinsView .ok (now self .below) × InOrder (V·CoinsView .coins) (V·CoinsView .most) (now self) ⌝ }
-        ensures well { λ _. ⌜ V·CoinsView .ok (now (self .exit) .below) × InOrder (V·CoinsView .coins) (V·CoinsView .most) (now (self .exit)) ⌝ }
-        ensures fixed { λ _. ⌜ V·CoinsView .most (now (self .exit) .below) ≡ V·CoinsView .most (now (self .entry) .below) ⌝ }
-        ensures map { λ _. ⌜ map-of (V·CoinsView .coins) (now (self .exit)) ≡ without (now (at .entry)) (map-of (V·CoinsView .coins) (now (self .entry))) ⌝ }
-        ensures value { λ r. ⌜ r ≡ coin-at (now (at .entry)) (map-of (V·CoinsView .coins) (now (self .entry))) ⌝ }
+        requires { ⌜ CacheOk V·CoinsView (now self) ⌝ }
+        ensures well { λ _. ⌜ CacheOk V·CoinsView (now (self .exit)) ⌝ }
+        ensures fixed { λ _. ⌜ room-of V·CoinsView (now (self .exit)) ≡ room-of V·CoinsView (now (self .entry)) ⌝ }
+        ensures map { λ _. ⌜ map-of V·CoinsView (now (self .exit)) ≡ without (now (at .entry)) (map-of V·CoinsView (now (self .entry))) ⌝ }
+        ensures value { λ r. ⌜ r ≡ coin-at (now (at .entry)) (map-of V·CoinsView (now (self .entry))) ⌝ }
         ensures entries { λ r. ⌜ entries-of (now (self .exit)) ≡ take-entries r (now (at .entry)) (entries-of (now (self .entry))) ⌝ }
-        ensures below { λ r. ⌜ V·CoinsView .coins (now (self .exit) .below) ≡ take-under r (now (at .entry)) (entries-of (now (self .entry))) (V·CoinsView .coins (now (self .entry) .below)) ⌝ }
+        ensures below { λ r. ⌜ below-of V·CoinsView (now (self .exit)) ≡ take-under r (now (at .entry)) (entries-of (now (self .entry))) (below-of V·CoinsView (now (self .entry))) ⌝ }
     {
         match self.table.find(at) {
             Ok(i) => {
@@ -252,13 +250,13 @@ pub impl<V: CoinsView> CoinsView for Cache<V> as CacheView {
     }
 
     fn flush(&mut self)
-        requires { ⌜ V·CoinsView .ok (now self .below) × InOrder (V·CoinsView .coins) (V·CoinsView .most) (now self) ⌝ }
-        ensures well { λ _. ⌜ V·CoinsView .ok (now (self .exit) .below) × InOrder (V·CoinsView .coins) (V·CoinsView .most) (now (self .exit)) ⌝ }
-        ensures fixed { λ _. ⌜ V·CoinsView .most (now (self .exit) .below) ≡ V·CoinsView .most (now (self .entry) .below) ⌝ }
-        ensures map { λ _. ⌜ map-of (V·CoinsView .coins) (now (self .exit)) ≡ map-of (V·CoinsView .coins) (now (self .entry)) ⌝ }
-        ensures bottom { λ _. ⌜ V·CoinsView .bottom (now (self .exit) .below) ≡ map-of (V·CoinsView .coins) (now (self .entry)) ⌝ }
+        requires { ⌜ CacheOk V·CoinsView (now self) ⌝ }
+        ensures well { λ _. ⌜ CacheOk V·CoinsView (now (self .exit)) ⌝ }
+        ensures fixed { λ _. ⌜ room-of V·CoinsView (now (self .exit)) ≡ room-of V·CoinsView (now (self .entry)) ⌝ }
+        ensures map { λ _. ⌜ map-of V·CoinsView (now (self .exit)) ≡ map-of V·CoinsView (now (self .entry)) ⌝ }
+        ensures bottom { λ _. ⌜ V·CoinsView .bottom (now (self .exit) .below) ≡ map-of V·CoinsView (now (self .entry)) ⌝ }
         ensures entries { λ _. ⌜ entries-of (now (self .exit)) ≡ [] ⌝ }
-        ensures below { λ _. ⌜ V·CoinsView .coins (now (self .exit) .below) ≡ spilled-below (entries-of (now (self .entry))) (V·CoinsView .coins (now (self .entry) .below)) ⌝ }
+        ensures below { λ _. ⌜ below-of V·CoinsView (now (self .exit)) ≡ spilled-below (entries-of (now (self .entry))) (below-of V·CoinsView (now (self .entry))) ⌝ }
     {
         self.spill();
         self.below.flush();
