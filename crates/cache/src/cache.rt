@@ -8,10 +8,11 @@ ghost use Rattle.std.specs.Vec.{made};
 ghost use Rattle.std.specs.declared.result.Result.the-variants.{Err};
 ghost use Rattle.maps.specs.Keyed.{outpoints};
 ghost use Rattle.maps.specs.Search.{Found};
+ghost use Rattle.coinsview.specs.Made.{Means};
 ghost use Rattle.coinsview.specs.Meaning.{coin-at, without, put-answer, put-map, next-in};
 ghost use Rattle.entries.specs.Entries.{with-entry};
-ghost use Rattle.cache.specs.Kept.{Kept, sorted-over};
-ghost use Rattle.cache.specs.Parts.{CacheOk, entries-of, below-of, room-of, map-of};
+ghost use Rattle.cache.specs.Kept.{Kept};
+ghost use Rattle.cache.specs.Parts.{CacheOk, cache-view, entries-of, below-of, room-of, map-of};
 ghost use Rattle.cache.specs.Rules.{with-room, below-with-room, put-entries, put-under, take-entries, take-under, look-entries, spilled-below};
 use crate::spill::put_dirty;
 use crate::spill::take_dirty;
@@ -38,7 +39,7 @@ impl<V: CoinsView + Drop> Cache<V> {
     // An empty cache over a view, or no memory for its entries.
     pub fn new(heap: Global, below: V) -> Result<Cache<V>, AllocError>
         requires { ⌜ V·CoinsView .ok below ⌝ }
-        ensures { λ r. ⌜ made r (λ c. CacheOk V·CoinsView c × (c .below ≡ below) × (entries-of c ≡ []) × (map-of V·CoinsView c ≡ V·CoinsView .coins below)) ⌝ }
+        ensures { λ r. ⌜ made r (λ c. Means (cache-view V·CoinsView) (V·CoinsView .most below) (V·CoinsView .coins below) (V·CoinsView .bottom below) c × (entries-of c ≡ [])) ⌝ }
     {
         let count = below.count();
         let table = EntryTable::new(heap)?;
@@ -88,19 +89,19 @@ impl<V: CoinsView> Cache<V> {
 }
 
 pub impl<V: CoinsView> CoinsView for Cache<V> as CacheView {
-    ghost ok = { λ s. CacheOk V·CoinsView s };
+    ghost ok = { cache-view V·CoinsView .ok };
 
-    ghost most = { λ s. room-of V·CoinsView s };
+    ghost most = { cache-view V·CoinsView .most };
 
-    ghost coins = { λ s. map-of V·CoinsView s };
+    ghost coins = { cache-view V·CoinsView .coins };
 
-    ghost bottom = { λ s. V·CoinsView .bottom (s .below) };
+    ghost bottom = { cache-view V·CoinsView .bottom };
 
-    ghost sorted = { λ s h. sorted-over (entries-of s) (V·CoinsView .coins (s .below)) (V·CoinsView .sorted (s .below) (h .0)) };
+    ghost sorted = { cache-view V·CoinsView .sorted };
 
-    ghost few = { λ s h. h .1 .fits };
+    ghost few = { cache-view V·CoinsView .few };
 
-    ghost small = { λ s h. V·CoinsView .small (s .below) (h .0) };
+    ghost small = { cache-view V·CoinsView .small };
 
     fn capacity(&self) -> usize {
         self.below.capacity()
