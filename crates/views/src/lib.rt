@@ -1,6 +1,11 @@
-// Coins views and spend conditions: the trait of views, the table, the quota, and the conditions that open a lock.
+// Coins views and spend conditions: the trait of views, the flat table, the quota and the cache, piles of them, and the
+// conditions that open a lock.
 pub mod condition;
+pub mod example;
+pub mod pile;
 
+pub use cache::cache::Cache;
+pub use cache::cache::CacheView;
 pub use coins::coin::Coin;
 pub use coins::coin::Lock;
 pub use coins::coin::MAX_VALUE;
@@ -15,3 +20,10 @@ pub use coinsview::quota::QuotaView;
 pub use coinsview::table::FlatTable;
 pub use coinsview::table::FlatTableView;
 pub use coinsview::view::CoinsView;
+pub use condition::Badge;
+pub use condition::BadgeCondition;
+pub use condition::Clock;
+pub use condition::ClockCondition;
+pub use condition::Either;
+pub use condition::EitherCondition;
+pub use condition::SpendCondition;
