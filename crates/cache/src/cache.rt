@@ -79,12 +79,12 @@ impl<V: CoinsView> Cache<V> {
         ensures fixed { λ _. ⌜ room-of V·CoinsView (now (self .exit)) ≡ room-of V·CoinsView (now (self .entry)) ⌝ }
         ensures count { λ _. ⌜ now (self .exit) .count ≡ now (self .entry) .count ⌝ }
     {
-        if self.table.entries.len() < MOST_ENTRIES {
+        if self.table.entries.len() == MOST_ENTRIES {
+            self.spill();
+            self.table.add(0, at, entry);
+        } else {
             self.table.add(i, at, entry);
-            return;
         }
-        self.spill();
-        self.table.add(0, at, entry);
     }
 }
 
@@ -130,15 +130,7 @@ pub impl<V: CoinsView> CoinsView for Cache<V> as CacheView {
                     return None;
                 };
                 if self.table.entries.len() < MOST_ENTRIES {
-                    self.table.add(
-                        i,
-                        *at,
-                        Entry {
-                            coin: Some(coin),
-                            dirty: false,
-                            fresh: false,
-                        },
-                    );
+                    self.table.add(i, *at, Entry::clean(coin));
                 }
                 Some(coin)
             }
@@ -172,16 +164,17 @@ pub impl<V: CoinsView> CoinsView for Cache<V> as CacheView {
         ensures entries { λ r. ⌜ entries-of (now (self .exit)) ≡ put-entries r at coin (entries-of (now (self .entry))) ⌝ }
         ensures below { λ r. ⌜ below-of V·CoinsView (now (self .exit)) ≡ put-under r at (entries-of (now (self .entry))) (below-of V·CoinsView (now (self .entry))) ⌝ }
     {
+        let most = self.capacity();
         match self.table.find(&at) {
             Ok(i) => {
                 let (_, e) = self.table.entries[i];
                 if let Some(_) = e.coin {
                     return Err(ViewFault::Exists);
                 }
-                if self.count >= self.below.capacity() {
+                if self.count >= most {
                     return Err(ViewFault::Full);
                 }
-                self.table.put_again(i, &at, coin);
+                self.table.replace(i, &at, coin);
                 self.count += 1;
                 Ok(())
             }
@@ -189,18 +182,10 @@ pub impl<V: CoinsView> CoinsView for Cache<V> as CacheView {
                 if let Some(_) = self.below.look(&at) {
                     return Err(ViewFault::Exists);
                 }
-                if self.count >= self.below.capacity() {
+                if self.count >= most {
                     return Err(ViewFault::Full);
                 }
-                self.enter(
-                    i,
-                    at,
-                    Entry {
-                        coin: Some(coin),
-                        dirty: true,
-                        fresh: true,
-                    },
-                );
+                self.enter(i, at, Entry::created(coin));
                 self.count += 1;
                 Ok(())
             }
@@ -235,15 +220,7 @@ pub impl<V: CoinsView> CoinsView for Cache<V> as CacheView {
                 let Some(coin) = self.below.look(at) else {
                     return None;
                 };
-                self.enter(
-                    i,
-                    *at,
-                    Entry {
-                        coin: None,
-                        dirty: true,
-                        fresh: false,
-                    },
-                );
+                self.enter(i, *at, Entry::spent());
                 self.count -= 1;
                 Some(coin)
             }
