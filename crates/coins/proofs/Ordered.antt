@@ -23,11 +23,11 @@ rank-itself x = grind (arith, tells)
 rank-equal : (x y : ℕ) → rank x y ≡ Equal → x ≡ y
 rank-equal x y h = grind (arith, tells)
 
-lex-itself : (xs : List ℕ) → lex unsigned xs xs ≡ Equal
+pub lex-itself : (xs : List ℕ) → lex unsigned xs xs ≡ Equal
 lex-itself [] = refl
 lex-itself (x ∷ xs) = let a = rank-itself x in let ih = lex-itself xs in grind arith
 
-lex-equal : (xs ys : List ℕ) → lex unsigned xs ys ≡ Equal → xs ≡ ys
+pub lex-equal : (xs ys : List ℕ) → lex unsigned xs ys ≡ Equal → xs ≡ ys
 lex-equal [] [] h = refl
 lex-equal [] (y ∷ ys) h = grind arith
 lex-equal (x ∷ xs) [] h = grind arith

@@ -1,3 +1,4 @@
 // Outpoints with their order, locks and coins.
 pub mod coin;
+pub mod equal;
 pub mod outpoint;

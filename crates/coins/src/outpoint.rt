@@ -15,7 +15,10 @@ pub impl PartialEq<Outpoint> for Outpoint as OutpointPartialEq {
     ghost equals = { λ x y r. Decides r (x ≡ y) };
 
     fn eq(&self, other: &Outpoint) -> bool {
-        self.index == other.index && self.id == other.id
+        if self.index != other.index {
+            return false;
+        }
+        self.id == other.id
     }
 }
 

@@ -1,7 +1,6 @@
--- The entries of the undo memory, oldest first.
-use mathlib.Core.Path.{_≡_}
+-- The entries of the undo memory, chained newest first.
 use mathlib.Core.Bool.{Bool, true, false, cond}
-use mathlib.Core.List.{List, [], _∷_, _++_}
+use mathlib.Core.List.{List, [], _∷_, reverse}
 use Prim.Native.Nat.{ℕ, zero, suc}
 use lib.Dec.{ltb}
 use lib.ListN.{length, take}
@@ -9,28 +8,20 @@ use Rattle.undo.specs.declared.Record.{Record}
 use Rattle.undo.specs.declared.Record.the-variants.{Mark, Made, Spent}
 use Rattle.undo.specs.declared.Undo.{Undo}
 
-abbrev pub entries : Undo → List Record
-entries u = take (u .len) (u .cells)
+unfoldable pub entries : Undo → List Record
+entries u = reverse (take (u .len) (u .cells))
 
 -- one entry more, unless there are 512
 abbrev pub pushed : Record → List Record → List Record
-pushed r es = cond (ltb (length es) 512) (es ++ r ∷ []) es
+pushed r es = cond (ltb (length es) 512) (r ∷ es) es
 
 abbrev pub mark : Record → Bool
 mark (Mark previous) = true
 mark (Made at coin) = false
 mark (Spent at coin) = false
 
--- what stands from the next mark on
-abbrev pub to-mark : List Record → List Record
-to-mark [] = []
-to-mark (r ∷ rs) = cond (mark r) (r ∷ rs) (to-mark rs)
-
--- what stands after the first block's entries, and after those of the first n
-abbrev pub past-block : List Record → List Record
-past-block [] = []
-past-block (r ∷ rs) = to-mark rs
-
-abbrev pub past-blocks : ℕ → List Record → List Record
-past-blocks zero es = es
-past-blocks (suc n) es = past-blocks n (past-block es)
+-- the entries of the newest n blocks: up to the n-th mark
+abbrev pub newest : ℕ → List Record → List Record
+newest zero es = []
+newest (suc n) [] = []
+newest (suc n) (r ∷ es) = r ∷ cond (mark r) (newest n es) (newest (suc n) es)

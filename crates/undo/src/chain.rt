@@ -1,13 +1,13 @@
 // The calls on the undo memory.
 ghost use mathlib.Core.Path.{_≡_};
 ghost use mathlib.Core.Bool.{cond};
-ghost use mathlib.Core.List.{List, [], _∷_, _++_};
+ghost use mathlib.Core.List.{[], _∷_};
 ghost use Prim.Native.Nat.{ℕ, _+_, _-_, _<_, _≤_};
 ghost use lib.Dec.{ltb};
-ghost use lib.ListN.{length, drop};
+ghost use lib.ListN.{length, take};
 ghost use Rattle.std.specs.Options.{Cases as BySome};
 ghost use Rattle.std.specs.Results.{isOk};
-ghost use Rattle.undo.specs.Entries.{entries, pushed, mark, past-block, past-blocks};
+ghost use Rattle.undo.specs.Entries.{entries, pushed, mark, newest};
 use super::LogFull;
 use super::Record;
 use super::Undo;
@@ -45,7 +45,7 @@ impl Undo {
 
     // Takes the newest entry off.
     pub fn pop(&mut self) -> Option<Record>
-        ensures { λ r. ⌜ BySome r ((entries (now (self .entry)) ≡ []) × (entries (now (self .exit)) ≡ [])) (λ x. entries (now (self .entry)) ≡ entries (now (self .exit)) ++ x ∷ []) ⌝ }
+        ensures { λ r. ⌜ BySome r ((entries (now (self .entry)) ≡ []) × (entries (now (self .exit)) ≡ [])) (λ x. entries (now (self .entry)) ≡ x ∷ entries (now (self .exit))) ⌝ }
     {
         if self.len == 0 {
             return None;
@@ -54,29 +54,26 @@ impl Undo {
         Some(self.cells[self.len])
     }
 
-    // Where the block that begins at `at` ends: the next mark, or the end.
-    fn block_end(&self, at: usize) -> usize
-        ensures within { λ r. ⌜ r ≤ length (entries (now (self .entry))) ⌝ }
-        ensures rest { λ r. ⌜ drop r (entries (now (self .entry))) ≡ past-block (drop at (entries (now (self .entry)))) ⌝ }
+    // Where the entries of the newest blocks begin.
+    fn start_of(&self, blocks: usize) -> usize
+        ensures within { λ r. ⌜ r ≤ now (self .entry) .len ⌝ }
+        ensures place { λ r. ⌜ newest blocks (entries (now (self .entry))) ≡ take (now (self .entry) .len - r) (entries (now (self .entry))) ⌝ }
     {
-        let len = self.len;
-        if at >= len {
-            return len;
-        }
-        let mut end = at + 1;
-        while end < len {
-            if is_mark(&self.cells[end]) {
-                return end;
+        let mut at = self.len;
+        let mut left = blocks;
+        while at > 0 && left > 0 {
+            at -= 1;
+            if is_mark(&self.cells[at]) {
+                left -= 1;
             }
-            end += 1;
         }
-        len
+        at
     }
 
-    // Frees the first `n` entries, and moves the others to the front.
-    fn shift_down(&mut self, n: usize)
-        requires { ⌜ n ≤ length (entries (now self)) ⌝ }
-        ensures { λ _. ⌜ entries (now (self .exit)) ≡ drop n (entries (now (self .entry))) ⌝ }
+    // Frees the oldest `n` entries, and moves the others down.
+    fn free_oldest(&mut self, n: usize)
+        requires { ⌜ n ≤ now self .len ⌝ }
+        ensures { λ _. ⌜ entries (now (self .exit)) ≡ take (now (self .entry) .len - n) (entries (now (self .entry))) ⌝ }
     {
         let kept = self.len - n;
         for i in 0..kept {
@@ -85,15 +82,12 @@ impl Undo {
         self.len = kept;
     }
 
-    // Frees the entries of the oldest blocks, as many as are told.
-    pub fn forget(&mut self, blocks: usize)
-        ensures { λ _. ⌜ entries (now (self .exit)) ≡ past-blocks blocks (entries (now (self .entry))) ⌝ }
+    // Keeps the entries of the newest blocks, and frees the others.
+    pub fn keep(&mut self, blocks: usize)
+        ensures { λ _. ⌜ entries (now (self .exit)) ≡ newest blocks (entries (now (self .entry))) ⌝ }
     {
-        let mut at = 0;
-        for _turn in 0..blocks {
-            at = self.block_end(at);
-        }
-        self.shift_down(at);
+        let at = self.start_of(blocks);
+        self.free_oldest(at);
     }
 }
 

@@ -1,0 +1,62 @@
+-- The values that stand at a place of bytes whose form is right.
+use mathlib.Core.Bool.{Bool, true, false, cond}
+use mathlib.Core.List.{List, [], _∷_, map}
+use Prim.Native.Nat.{ℕ, zero, suc, _+_, _*_}
+use lib.Dec.{ltb}
+use lib.ListN.{length, getD, take, drop}
+use Rattle.std.specs.declared.result.Result.{Result}
+use Rattle.std.specs.declared.result.Result.the-variants.{Ok, Err}
+use Rattle.compact.specs.Compact.{four-at, eight-at}
+use Rattle.blockform.specs.declared.fault.FormFault.{FormFault}
+use Rattle.blockform.specs.declared.fault.FormFault.the-variants.{OverSize}
+use Rattle.blockform.specs.Form.{then, block}
+use Rattle.blockform.specs.Value.{InputValue, OutputValue, TransactionValue, BlockValue, Piece, spends, makes}
+
+-- what stands at a place and at the n - 1 places after it, and where that ends
+abbrev pub list-at : {X : Type 0} → ℕ → (ℕ → X) → (ℕ → ℕ) → ℕ → List X
+list-at zero value end at = []
+list-at (suc n) value end at = value at ∷ list-at n value end (end at)
+
+abbrev pub end-of : ℕ → (ℕ → ℕ) → ℕ → ℕ
+end-of zero end at = at
+end-of (suc n) end at = end-of n end (end at)
+
+abbrev pub id-at : List ℕ → ℕ → List ℕ
+id-at b at = take 32 (drop at b)
+
+abbrev pub input-at : List ℕ → ℕ → InputValue
+input-at b at = record { outpoint = record { id = id-at b at; index = four-at b (at + 32) }; witness = take (getD b (at + 36) 0) (drop (at + 37) b) }
+
+abbrev pub input-end : List ℕ → ℕ → ℕ
+input-end b at = at + 37 + getD b (at + 36) 0
+
+abbrev pub output-at : List ℕ → ℕ → OutputValue
+output-at b at = record { value = eight-at b at; lock = record { kind = getD b (at + 8) 0; argument = eight-at b (at + 9) } }
+
+abbrev pub output-end : ℕ → ℕ
+output-end at = at + 17
+
+abbrev pub item-at : Bool → List ℕ → ℕ → Piece
+item-at true b at = spends (input-at b at)
+item-at false b at = makes (output-at b at)
+
+abbrev pub item-end : Bool → List ℕ → ℕ → ℕ
+item-end true b at = input-end b at
+item-end false b at = output-end at
+
+-- where a transaction's inputs end, and its outputs
+abbrev pub inputs-end : List ℕ → ℕ → ℕ
+inputs-end b at = end-of (getD b (at + 32) 0) (input-end b) (at + 33)
+
+abbrev pub transaction-at : List ℕ → ℕ → TransactionValue
+transaction-at b at = record { id = id-at b at; inputs = list-at (getD b (at + 32) 0) (input-at b) (input-end b) (at + 33); outputs = list-at (getD b (inputs-end b at) 0) (output-at b) output-end (inputs-end b at + 1) }
+
+abbrev pub transaction-end : List ℕ → ℕ → ℕ
+transaction-end b at = end-of (getD b (inputs-end b at) 0) output-end (inputs-end b at + 1)
+
+abbrev pub block-at : List ℕ → BlockValue
+block-at b = record { id = id-at b 0; previous = id-at b 32; transactions = list-at (getD b 64 0) (transaction-at b) (transaction-end b) 65 }
+
+-- the block that bytes write, or the first fault: the size, and then the form from the front
+unfoldable pub read-block : List ℕ → Result BlockValue FormFault
+read-block b = cond (ltb 65536 (length b)) (Err OverSize) (then (block b) (λ _. Ok (block-at b)))

@@ -1,0 +1,99 @@
+// Inputs, outputs and transactions, handed out one after another.
+ghost use mathlib.Core.Path.{_≡_};
+ghost use mathlib.Core.List.{[], _∷_};
+ghost use Prim.Native.Nat.{_≤_};
+ghost use lib.ListN.{length};
+ghost use Rattle.std.specs.Options.{Cases};
+ghost use Rattle.blockform.specs.Value.{TransactionValue};
+ghost use Rattle.blockform.specs.Readers.{items-of, piece-of, transactions-of, Items-good, Transactions-good, Hands};
+use crate::reader::fields::id_at;
+use crate::reader::fields::input;
+use crate::reader::fields::output;
+use crate::reader::fields::past_inputs;
+use crate::reader::Item;
+use crate::reader::Items;
+use crate::reader::Transaction;
+use crate::reader::Transactions;
+
+impl<'a> Items<'a> {
+    // How many are still to come.
+    pub fn len(&self) -> usize
+        requires { ⌜ Items-good (now self) ⌝ }
+        ensures is { λ r. ⌜ r ≡ length (items-of (now (self .entry))) ⌝ }
+        ensures few { λ r. ⌜ r ≤ 64 ⌝ }
+    {
+        self.left
+    }
+
+    // The next input or output; `None` after the last.
+    pub fn next(&mut self) -> Option<Item<'a>>
+        requires { ⌜ Items-good (now self) ⌝ }
+        ensures good { λ _. ⌜ Items-good (now (self .exit)) ⌝ }
+        ensures hands { λ r. ⌜ Cases r ((items-of (now (self .entry)) ≡ []) × (items-of (now (self .exit)) ≡ [])) (λ i. items-of (now (self .entry)) ≡ piece-of i ∷ items-of (now (self .exit))) ⌝ }
+    {
+        if self.left == 0 {
+            return None;
+        }
+        let (item, end) = if self.inputs {
+            input(self.block, self.place)
+        } else {
+            output(self.block, self.place)
+        };
+        *self = Items {
+            block: self.block,
+            place: end,
+            left: self.left - 1,
+            inputs: self.inputs,
+        };
+        Some(item)
+    }
+}
+
+impl<'a> Transactions<'a> {
+    // How many are still to come.
+    pub fn len(&self) -> usize
+        requires { ⌜ Transactions-good (now self) ⌝ }
+        ensures is { λ r. ⌜ r ≡ length (transactions-of (now (self .entry))) ⌝ }
+        ensures few { λ r. ⌜ r ≤ 64 ⌝ }
+    {
+        self.left
+    }
+
+    // The next transaction; `None` after the last.
+    pub fn next(&mut self) -> Option<Transaction<'a>>
+        requires { ⌜ Transactions-good (now self) ⌝ }
+        ensures good { λ _. ⌜ Transactions-good (now (self .exit)) ⌝ }
+        ensures hands { λ r. ⌜ Cases r ((transactions-of (now (self .entry)) ≡ []) × (transactions-of (now (self .exit)) ≡ [])) (λ t. (v : TransactionValue) × Hands t v × (transactions-of (now (self .entry)) ≡ v ∷ transactions-of (now (self .exit)))) ⌝ }
+    {
+        if self.left == 0 {
+            return None;
+        }
+        let block = self.block;
+        let offset = self.place;
+        let id = id_at(block, offset);
+        let inputs = Items {
+            block,
+            place: offset + 33,
+            left: block[offset + 32] as usize,
+            inputs: true,
+        };
+        let end = past_inputs(block, inputs.place, inputs.left);
+        let outputs = Items {
+            block,
+            place: end + 1,
+            left: block[end] as usize,
+            inputs: false,
+        };
+        *self = Transactions {
+            block,
+            place: outputs.place + 17 * outputs.left,
+            left: self.left - 1,
+        };
+        Some(Transaction {
+            id,
+            offset,
+            inputs,
+            outputs,
+        })
+    }
+}

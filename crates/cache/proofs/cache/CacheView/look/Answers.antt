@@ -1,0 +1,63 @@
+use mathlib.Core.Path.{_≡_, refl, sym, ap, _∙_}
+use mathlib.Core.Bool.{true, false}
+use native.Mathlib.Omega.{arith}
+use Prim.Native.Nat.{_+_, _-_, _≤_, _<_}
+use lib.ListN.{length}
+use Rattle.std.specs.Of.Vec.{vec-items, vec-cap}
+use Rattle.std.specs.declared.option.Option.{Option}
+use Rattle.std.specs.declared.option.Option.the-variants.{None, Some}
+use Rattle.maps.proofs.Laws.{remove-absent}
+use Rattle.maps.specs.Keyed.{outpoints}
+use Rattle.coinsview.specs.Meaning.{Coins, coin-at, without}
+use Rattle.entries.specs.declared.table.Entry.{Entry}
+use Rattle.entries.specs.Entries.{entry-at, with-entry, spent, clean}
+use Rattle.cache.specs.Rules.{over-below, take-entry}
+use Rattle.cache.specs.Kept.{Kept}
+use Rattle.cache.specs.Rules.{room-under, below-with-room}
+use Rattle.cache.proofs.Turns.{seen, over-at, kept-moved, says-is, take-spent, take-fresh, few-over, few-new, look-clean, look-kept, look-entered, look-passed, one-counted, take-flag, roomy, some-there}
+use Rattle.cache.proofs.cache.CacheView.look.Needs as need
+
+pub returns-in-rest : need.returns-in-rest
+returns-in-rest g c =
+    let v = g .V·CoinsView in
+    let s = c .args .self .now in
+    let es = vec-items (s .table .entries) in
+    let rows = v .sorted (s .below) (c .pre .0) in
+    let e = c .in-rest .ensures tt in
+    record { well = (e .well, kept-moved _ _ _ _ _ (c .pre .1) rows _ _ (e .map) (e .fixed)); fixed = e .fixed; map = ap (over-below es) (e .map); value = e .value ∙ sym (over-at _ _ _ _ _ (c .pre .1) rows (c .args .at .now) None (c .in-Err .ensures tt .2)); entries = refl; below = e .map }
+
+pub returns-in-Ok : need.returns-in-Ok
+returns-in-Ok g c =
+    let v = g .V·CoinsView in
+    let s = c .args .self .now in
+    let es = vec-items (s .table .entries) in
+    let k = c .args .at .now in
+    let rows = v .sorted (s .below) (c .pre .0) in
+    let there = seen k es (c .in-Ok .i) (c .index .result .now) (c .in-Ok .ensures tt .2) (c .index .ensures) in
+    record { well = c .pre; fixed = refl; map = refl; value = sym (over-at _ _ _ _ _ (c .pre .1) rows k _ there); entries = look-kept k _ es _ there; below = refl }
+
+pub returns-then-len-lt-MOST-ENTRIES : need.returns-then-len-lt-MOST-ENTRIES
+returns-then-len-lt-MOST-ENTRIES g c =
+    let v = g .V·CoinsView in
+    let s = c .args .self .now in
+    let es = vec-items (s .table .entries) in
+    let m = v .coins (s .below) in
+    let k = c .args .at .now in
+    let rows = v .sorted (s .below) (c .pre .0) in
+    let e = c .in-Some .ensures tt in
+    let new = c .in-Err .ensures tt .2 in
+    let less : length es < 64 = omega arith in
+    let says = says-is _ _ _ _ _ _ _ _ _ _ _ (look-clean _ _ _ _ _ (c .pre .1) rows k (c .in-Some .coin) new (sym (e .value)) less) (c .add .ensures .items) (c .add .ensures .held) refl (e .map) (e .fixed) in
+    record { well = (e .well, says .0); fixed = e .fixed; map = says .1; value = e .value ∙ sym (over-at _ _ _ _ _ (c .pre .1) rows k None new); entries = c .add .ensures .items ∙ look-entered k (c .in-Some .coin) es new less; below = e .map }
+
+pub returns-else-len-lt-MOST-ENTRIES : need.returns-else-len-lt-MOST-ENTRIES
+returns-else-len-lt-MOST-ENTRIES g c =
+    let v = g .V·CoinsView in
+    let s = c .args .self .now in
+    let es = vec-items (s .table .entries) in
+    let k = c .args .at .now in
+    let rows = v .sorted (s .below) (c .pre .0) in
+    let e = c .in-Some .ensures tt in
+    let new = c .in-Err .ensures tt .2 in
+    let full : 64 ≤ length es = omega arith in
+    record { well = (e .well, kept-moved _ _ _ _ _ (c .pre .1) rows _ _ (e .map) (e .fixed)); fixed = e .fixed; map = ap (over-below es) (e .map); value = e .value ∙ sym (over-at _ _ _ _ _ (c .pre .1) rows k None new); entries = look-passed k (c .in-Some .coin) es new full; below = e .map }

@@ -1,0 +1,4 @@
+pub mod Rules
+pub mod Kept
+pub mod Parts
+pub mod Walk

@@ -1,0 +1,3 @@
+pub mod Puts
+pub mod Shifts
+pub mod Tables

@@ -1,0 +1,9 @@
+use mathlib.Core.Path.{_≡_, refl, sym, ap, subst, _∙_}
+use native.Mathlib.Omega.{arith}
+use Rattle.std.specs.Holes.{removed}
+use Rattle.std.specs.Of.Vec.{vec-items, vec-len, vec-cap}
+use Rattle.entries.proofs.Places.{removed-at}
+use Rattle.entries.proofs.table.EntryTable.drop_at.Needs as need
+
+pub returns : need.returns
+returns c = record { items = c .remove .ensures .items ∙ removed-at _ _ _ (c .pre); held = c .remove .ensures .capacity }

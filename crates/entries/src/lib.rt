@@ -1,0 +1,2 @@
+// The plain table of a cache's entries.
+pub mod table;

@@ -1,0 +1,250 @@
+// The calls on a ledger.
+use crate::Balance;
+use crate::Connected;
+use crate::Disconnected;
+use crate::Ledger;
+use crate::Outcome;
+use crate::Tip;
+use crate::fault::LedgerFault;
+use crate::fault::LedgerFromBlock;
+use crate::terms::Terms;
+use blockform::reader::Block;
+use coins::coin::Coin;
+use coins::coin::Lock;
+use coins::coin::LockPartialEq;
+use coins::outpoint::Outpoint;
+use coinsview::view::CoinsView;
+use connecting::apply::Site;
+use connecting::apply::Sums;
+use connecting::apply::apply_block;
+use connecting::check::check_block;
+use connecting::fault::BlockFault;
+use connecting::fault::BlockFromForm;
+use connecting::unwind::unwind;
+use undo::Record;
+use undo::Undo;
+use views::condition::SpendCondition;
+
+impl<V: CoinsView, C: SpendCondition> Ledger<V, C> {
+    // A ledger that is not started yet.
+    pub fn new(view: V, condition: C) -> Ledger<V, C>
+        requires { ⌜ V·CoinsView .ok view ⌝ }
+        ensures { λ r. ⌜ V·CoinsView .ok (r .view) ⌝ }
+    {
+        let terms = Terms {
+            halving: 1,
+            maturity: 1,
+            last: 1,
+        };
+        let tip = Tip {
+            id: [0; 32],
+            height: 0,
+        };
+        Ledger {
+            view,
+            condition,
+            chain: Undo::new(),
+            terms,
+            tip,
+            kept: 0,
+            started: false,
+        }
+    }
+
+    // Starts the ledger over a view with no coins, once.
+    pub fn start(
+        &mut self,
+        halving: u64,
+        maturity: u64,
+        last: u64,
+        id: &[u8; 32],
+    ) -> Result<(), LedgerFault>
+        requires { ⌜ V·CoinsView .ok (now self .view) ⌝ }
+        ensures { λ _. ⌜ V·CoinsView .ok (now (self .exit) .view) ⌝ }
+    {
+        if self.started {
+            return Err(LedgerFault::Started);
+        }
+        let Some(terms) = Terms::new(halving, maturity, last) else {
+            return Err(LedgerFault::Parameter);
+        };
+        if self.view.count() > 0 {
+            return Err(LedgerFault::NotEmpty);
+        }
+        self.terms = terms;
+        self.tip = Tip { id: *id, height: 0 };
+        self.started = true;
+        Ok(())
+    }
+
+    fn check_started(&self) -> Result<(), LedgerFault> {
+        if self.started {
+            Ok(())
+        } else {
+            Err(LedgerFault::NotStarted)
+        }
+    }
+
+    // Applies a block that has passed its checks, or leaves the coins and the undo entries as they read before.
+    fn apply(&mut self, block: &Block<'_>, height: u32) -> Result<Sums, BlockFault>
+        requires { ⌜ V·CoinsView .ok (now self .view) ⌝ }
+        ensures { λ _. ⌜ V·CoinsView .ok (now (self .exit) .view) ⌝ }
+    {
+        let site = Site {
+            height,
+            maturity: self.terms.maturity,
+        };
+        let halving = self.terms.halving;
+        let _ = self.chain.push(Record::Mark(*block.previous()));
+        let applied = apply_block(
+            &mut self.view,
+            &self.condition,
+            &mut self.chain,
+            block,
+            site,
+            halving,
+        );
+        if applied.is_err() {
+            let _ = unwind(&mut self.view, &mut self.chain);
+        }
+        applied
+    }
+
+    // Connects a block to the tip, or says why not.
+    fn connect_block(&mut self, bytes: &[u8]) -> Result<Connected, BlockFault>
+        requires { ⌜ V·CoinsView .ok (now self .view) ⌝ }
+        ensures { λ _. ⌜ V·CoinsView .ok (now (self .exit) .view) ⌝ }
+    {
+        let block = Block::read(bytes)?;
+        let needed = check_block(&block, &self.tip.id, self.tip.height, self.terms.last)?;
+        if needed > self.chain.free() {
+            return Err(BlockFault::LogFull);
+        }
+        let height = self.tip.height + 1;
+        let sums = self.apply(&block, height)?;
+        self.tip = Tip {
+            id: *block.id(),
+            height,
+        };
+        self.kept += 1;
+        Ok(Connected {
+            height,
+            made: sums.made,
+            spent: sums.spent,
+            fees: sums.fees,
+            burned: sums.burned,
+        })
+    }
+
+    // Connects the block that the bytes hold.
+    pub fn connect(&mut self, bytes: &[u8]) -> Result<Connected, LedgerFault>
+        requires { ⌜ V·CoinsView .ok (now self .view) ⌝ }
+        ensures { λ _. ⌜ V·CoinsView .ok (now (self .exit) .view) ⌝ }
+    {
+        self.check_started()?;
+        Ok(self.connect_block(bytes)?)
+    }
+
+    // Takes the last block back, by its undo entries.
+    pub fn disconnect(&mut self) -> Result<Disconnected, LedgerFault>
+        requires { ⌜ V·CoinsView .ok (now self .view) ⌝ }
+        ensures { λ _. ⌜ V·CoinsView .ok (now (self .exit) .view) ⌝ }
+    {
+        self.check_started()?;
+        if self.kept == 0 {
+            return Err(LedgerFault::Nothing);
+        }
+        let Some(unwound) = unwind(&mut self.view, &mut self.chain) else {
+            return Err(LedgerFault::Nothing);
+        };
+        let height = self.tip.height;
+        self.tip = Tip {
+            id: unwound.previous,
+            height: height.saturating_sub(1),
+        };
+        self.kept -= 1;
+        let outcome = if unwound.clean {
+            Outcome::Clean
+        } else {
+            Outcome::Unclean
+        };
+        Ok(Disconnected { height, outcome })
+    }
+
+    // Keeps the undo entries of the newest n blocks, frees the others, and answers how many blocks are kept.
+    pub fn settle(&mut self, n: u64) -> Result<u64, LedgerFault>
+        requires { ⌜ V·CoinsView .ok (now self .view) ⌝ }
+        ensures { λ _. ⌜ V·CoinsView .ok (now (self .exit) .view) ⌝ }
+    {
+        self.check_started()?;
+        let kept = self.kept as u64;
+        if kept <= n {
+            return Ok(kept);
+        }
+        self.chain.keep(n as usize);
+        self.kept = n as usize;
+        Ok(n)
+    }
+
+    // Makes the base at the foot hold the coins.
+    pub fn flush(&mut self) -> Result<(), LedgerFault>
+        requires { ⌜ V·CoinsView .ok (now self .view) ⌝ }
+        ensures { λ _. ⌜ V·CoinsView .ok (now (self .exit) .view) ⌝ }
+    {
+        self.check_started()?;
+        self.view.flush();
+        Ok(())
+    }
+
+    pub fn tip(&self) -> Result<Tip, LedgerFault> {
+        self.check_started()?;
+        Ok(self.tip)
+    }
+
+    // The coin at an outpoint.
+    pub fn look(&mut self, at: &Outpoint) -> Result<Option<Coin>, LedgerFault>
+        requires { ⌜ V·CoinsView .ok (now self .view) ⌝ }
+        ensures { λ _. ⌜ V·CoinsView .ok (now (self .exit) .view) ⌝ }
+    {
+        self.check_started()?;
+        Ok(self.view.look(at))
+    }
+
+    // The least outpoint above the given one, or of all, with its coin.
+    pub fn next(&mut self, from: Option<&Outpoint>) -> Result<Option<(Outpoint, Coin)>, LedgerFault>
+        requires { ⌜ V·CoinsView .ok (now self .view) ⌝ }
+        ensures { λ _. ⌜ V·CoinsView .ok (now (self .exit) .view) ⌝ }
+    {
+        self.check_started()?;
+        Ok(self.view.next(from))
+    }
+
+    // How many coins a lock has, and what they are worth.
+    pub fn balance(&mut self, lock: &Lock) -> Result<Balance, LedgerFault>
+        requires { ⌜ V·CoinsView .ok (now self .view) ⌝ }
+        ensures { λ _. ⌜ V·CoinsView .ok (now (self .exit) .view) ⌝ }
+    {
+        self.check_started()?;
+        Ok(balance_of(&mut self.view, lock))
+    }
+}
+
+// Walks the coins in the order of their outpoints, and adds up those of a lock.
+fn balance_of<V: CoinsView>(view: &mut V, lock: &Lock) -> Balance
+    requires { ⌜ V·CoinsView .ok (now view) ⌝ }
+    ensures { λ _. ⌜ V·CoinsView .ok (now (view .exit)) ⌝ }
+{
+    let mut balance = Balance { coins: 0, value: 0 };
+    let mut from = None;
+    for _turn in 0..view.count() {
+        let Some((at, coin)) = view.next(from.as_ref()) else {
+            return balance;
+        };
+        if coin.lock == *lock {
+            balance.coins += 1;
+            balance.value += coin.value;
+        }
+        from = Some(at);
+    }
+    balance
+}

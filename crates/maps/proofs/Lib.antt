@@ -1,0 +1,4 @@
+pub mod Laws
+pub mod Layered
+pub mod Merged
+pub mod Searches

@@ -1,0 +1,4 @@
+pub mod Maps
+pub mod Layers
+pub mod Keyed
+pub mod Search
