@@ -3,8 +3,8 @@ ghost use mathlib.Core.Path.{_≡_};
 ghost use Prim.Native.Nat.{_<_};
 ghost use Rattle.blockform.specs.Form.{field as fieldForm, count as countForm, counted, input as inputForm, output as outputForm, transaction as transactionForm, block as blockForm};
 use crate::fault::FormFault;
-use compact::read_size;
 use compact::SizeFault;
+use compact::read_size;
 
 // Past a field of `n` bytes.
 fn field(b: &[u8], at: usize, n: usize) -> Result<usize, FormFault>

@@ -6,13 +6,13 @@ ghost use Rattle.std.specs.Results.{Cases};
 ghost use Rattle.std.specs.declared.result.Result.the-variants.{Ok, Err};
 ghost use Rattle.blockform.specs.File.{record-at, peek-at};
 ghost use Rattle.blockform.specs.declared.fault.FileFault.the-variants.{OverSize};
+use crate::MAX_BLOCK;
 use crate::fault::FileFault;
 use crate::fault::FormFault;
 use crate::fault::PeekFault;
 use crate::fault::PeekFromFile;
 use crate::fault::PeekFromForm;
 use crate::file::FileReader;
-use crate::MAX_BLOCK;
 
 // Puts a place back when it is dropped.
 struct Restore<'a> {

@@ -5,12 +5,12 @@ ghost use Rattle.std.specs.Vec.{made};
 ghost use Rattle.std.specs.declared.result.Result.the-variants.{Ok, Err};
 ghost use Rattle.blockform.specs.Places.{read-block};
 ghost use Rattle.blockform.specs.Readers.{block-of, transactions-of, Block-good, Transactions-good};
+use crate::MAX_BLOCK;
 use crate::fault::FormFault;
 use crate::form;
-use crate::reader::fields::id_at;
 use crate::reader::Block;
 use crate::reader::Transactions;
-use crate::MAX_BLOCK;
+use crate::reader::fields::id_at;
 
 impl<'a> Block<'a> {
     // The block that the bytes are, or the first fault: the size first, and then the bytes from the front.

@@ -36,7 +36,14 @@ fn u64_at(b: &[u8], at: usize) -> u64
     let low = [b[at], b[at + 1], b[at + 2], b[at + 3]];
     let high = [b[at + 4], b[at + 5], b[at + 6], b[at + 7]];
     u64::from_le_bytes([
-        low[0], low[1], low[2], low[3], high[0], high[1], high[2], high[3],
+        low[0],
+        low[1],
+        low[2],
+        low[3],
+        high[0],
+        high[1],
+        high[2],
+        high[3],
     ])
 }
 

@@ -6,14 +6,14 @@ ghost use lib.ListN.{length};
 ghost use Rattle.std.specs.Options.{Cases};
 ghost use Rattle.blockform.specs.Value.{TransactionValue};
 ghost use Rattle.blockform.specs.Readers.{items-of, piece-of, transactions-of, Items-good, Transactions-good, Hands};
-use crate::reader::fields::id_at;
-use crate::reader::fields::input;
-use crate::reader::fields::output;
-use crate::reader::fields::past_inputs;
 use crate::reader::Item;
 use crate::reader::Items;
 use crate::reader::Transaction;
 use crate::reader::Transactions;
+use crate::reader::fields::id_at;
+use crate::reader::fields::input;
+use crate::reader::fields::output;
+use crate::reader::fields::past_inputs;
 
 impl<'a> Items<'a> {
     // How many are still to come.
