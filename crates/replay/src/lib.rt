@@ -1,0 +1,4 @@
+// A script, performed line by line on a ledger and a block file.
+mod answer;
+pub mod session;
+pub mod text;

@@ -1,0 +1,42 @@
+// The whole printout of a run.
+ghost use mathlib.Core.Path.{_≡_};
+ghost use mathlib.Core.List.{List};
+ghost use Prim.Native.Nat.{_≤_, _<_};
+ghost use lib.ListN.{length};
+ghost use Rattle.std.specs.Of.String.{string-bytes};
+ghost use Rattle.std.specs.Vec.{made};
+ghost use Rattle.printout.specs.declared.Line.{Line};
+ghost use Rattle.replay.specs.Turns.{Printed};
+use crate::session::Session;
+use coinsview::view::CoinsView;
+use ledger::Ledger;
+use printout::Line;
+use printout::append;
+use std::alloc::AllocError;
+use std::alloc::Global;
+use views::condition::SpendCondition;
+
+// The answers to all lines of the script, an LF after each. A block file that is too long answers alone.
+pub fn printout_of<V: CoinsView, C: SpendCondition>(
+    heap: Global,
+    blocks: &[u8],
+    script: &[u8],
+    ledger: &mut Ledger<V, C>,
+) -> Result<String, AllocError>
+    requires { ⌜ V·CoinsView .ok (now ledger .view) ⌝ }
+    ensures ok { λ _. ⌜ V·CoinsView .ok (now (ledger .exit) .view) ⌝ }
+    ensures text { λ r. ⌜ made r (λ t. Printed (now (blocks .entry)) (now (script .entry)) (now (ledger .entry)) (now (ledger .exit)) (string-bytes t)) ⌝ }
+{
+    let mut text = String::new(heap);
+    let mut session = match Session::new(blocks, script) {
+        Ok(session) => session,
+        Err(fault) => {
+            append(&mut text, Line::Refused(fault.refusal()))?;
+            return Ok(text);
+        }
+    };
+    while let Some(line) = session.next_line(ledger) {
+        append(&mut text, line)?;
+    }
+    Ok(text)
+}

@@ -1,0 +1,4 @@
+mod Formed
+mod Grows
+mod Passed
+mod Written
