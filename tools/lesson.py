@@ -37,8 +37,9 @@ Outside of blocks:
 Repetition, anywhere and not nested:
 
     repeat A B                   the lines up to "end" once for each number from A to B,
-    end                          where {n} stands for the number
+    end                          where {n} stands for the number, {n+5} and {n-1} for one reckoned from it
 """
+import re
 import subprocess
 import sys
 from pathlib import Path
@@ -161,6 +162,10 @@ def read_line(parts, words):
             raise Mistake("not a line of the form")
 
 
+def filled(word, n):
+    return re.sub(r"\{n([+-]\d+)?\}", lambda found: str(n + int(found[1] or 0)), word)
+
+
 def lines(text):
     """The lines that say something, with their numbers, repetitions written out."""
     body, numbers = None, range(0)
@@ -172,7 +177,7 @@ def lines(text):
             body, numbers = [], range(int(words[1]), int(words[2]) + 1)
         elif words[0] == "end":
             for n in numbers:
-                yield from ((a, [w.replace("{n}", str(n)) for w in ws]) for a, ws in body)
+                yield from ((a, [filled(w, n) for w in ws]) for a, ws in body)
             body = None
         elif body is None:
             yield at, words
