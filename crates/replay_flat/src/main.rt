@@ -3,6 +3,7 @@ use ledger::Ledger;
 use replay::text::printout_of;
 use std::error::AnyError;
 use std::fs::File;
+use std::io;
 use std::io::Read;
 use views::Badge;
 use views::BadgeCondition;
@@ -24,13 +25,16 @@ const READ: u64 = 65_537;
 // How many coins the table has cells for.
 const CELLS: usize = 512;
 
-fn read_blocks(rt: &LibcRuntime) -> Result<Vec<u8>, AnyError> {
+fn read_file(rt: &LibcRuntime) -> io::Result<Vec<u8>> {
     let mut bytes = Vec::new(rt.alloc());
-    match File::open(rt, "blocks.dat") {
-        Ok(file) => {
-            file.take(READ).read_to_end(&mut bytes)?;
-            Ok(bytes)
-        }
+    File::open(rt, "blocks.dat")?.take(READ).read_to_end(&mut bytes)?;
+    Ok(bytes)
+}
+
+// The bytes of the block file; where they cannot be had, standard error says why.
+fn read_blocks(rt: &LibcRuntime) -> Result<Vec<u8>, AnyError> {
+    match read_file(rt) {
+        Ok(bytes) => Ok(bytes),
         Err(e) => {
             rt.eprintln(format_args!("replay_flat: cannot read blocks.dat: {e}"))?;
             Err(e.into())
