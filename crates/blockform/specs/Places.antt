@@ -37,12 +37,12 @@ abbrev pub output-end : ℕ → ℕ
 output-end at = at + 17
 
 abbrev pub item-at : Bool → List ℕ → ℕ → Piece
-item-at true b at = spends (input-at b at)
-item-at false b at = makes (output-at b at)
+item-at true b = λ at. spends (input-at b at)
+item-at false b = λ at. makes (output-at b at)
 
 abbrev pub item-end : Bool → List ℕ → ℕ → ℕ
-item-end true b at = input-end b at
-item-end false b at = output-end at
+item-end true b = input-end b
+item-end false b = output-end
 
 -- where a transaction's inputs end, and its outputs
 abbrev pub inputs-end : List ℕ → ℕ → ℕ

@@ -16,22 +16,21 @@ fn field(b: &[u8], at: usize, n: usize) -> Result<usize, FormFault>
     Ok(at + n)
 }
 
-// A count of at most `limit`, and the place after it.
-fn count(b: &[u8], at: usize, limit: u64) -> Result<(usize, usize), FormFault>
+// A count of at most `limit`, and the place after it. Such a count has one byte; the compact size tells the faults apart.
+fn count(b: &[u8], at: usize, limit: u8) -> Result<(usize, usize), FormFault>
+    requires { ⌜ limit < 253 ⌝ }
     ensures { λ r. ⌜ r ≡ countForm limit (now (b .entry)) at ⌝ }
 {
-    if b.len() < at {
+    if b.len() <= at {
         return Err(FormFault::Cut { at });
+    }
+    if b[at] <= limit {
+        return Ok((b[at] as usize, at + 1));
     }
     match read_size(b.split_at(at).1) {
         Err(SizeFault::Cut) => Err(FormFault::Cut { at }),
         Err(SizeFault::LongForm) => Err(FormFault::LongForm { at }),
-        Ok((n, rest)) => {
-            if n > limit {
-                return Err(FormFault::OverCount { at });
-            }
-            Ok((n as usize, b.len() - rest.len()))
-        }
+        Ok(_) => Err(FormFault::OverCount { at }),
     }
 }
 

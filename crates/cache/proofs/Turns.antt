@@ -19,7 +19,7 @@ use Rattle.maps.proofs.Layered.{look-laid, sorted-laid, laid-insert, laid-clean
 use Rattle.maps.specs.Keyed.{outpoints}
 use Rattle.coinsview.specs.Meaning.{Coins, coin-at, with-coin, without}
 use Rattle.entries.specs.declared.table.Entry.{Entry}
-use Rattle.entries.specs.Entries.{clean, made, again, spent, Entries, entry-at, with-entry, without-entry}
+use Rattle.entries.specs.Entries.{clean, created, replaced, spent, Entries, entry-at, with-entry, without-entry}
 use Rattle.cache.specs.Rules.{look-entry, look-entries, take-entry, take-entries, with-room, below-with-room, marks, over-below, taken-below, put-below, spilled-below}
 use Rattle.cache.specs.Kept.{Kept}
 
@@ -94,20 +94,20 @@ module _ (es : Entries) (room n : ℕ) (m : Coins) (most : ℕ) (h : Kept es roo
       go false p = h .step k e f .2 p y
 
   -- put on a spent entry
-  pub put-again : (v : Coin) (e : Entry) → entry-at k es ≡ Some e → e .coin ≡ None → n < most → Says (with-entry k (again v) es) room (n + 1) m most (with-coin k v (over-below es m))
-  put-again v e f z l =
+  pub put-replaced : (v : Coin) (e : Entry) → entry-at k es ≡ Some e → e .coin ≡ None → n < most → Says (with-entry k (replaced v) es) room (n + 1) m most (with-coin k v (over-below es m))
+  put-replaced v e f z l =
       let none : coin-at k (over-below es m) ≡ None = over-at es room n m most h s k (Some e) f ∙ z in
       let long = length-insert outpoints k v (over-below es m) none in
       let c = h .counted in
-      says-with (again v) _ (n + 1) (λ d. absurd (let q : _≡_ {A = ℕ} 0 1 = cc in omega arith), λ d. absurd (let q : _≡_ {A = ℕ} 0 1 = cc in omega arith), λ d y. stale e f z y, λ d. absurd (let q : _≡_ {A = ℕ} 0 1 = cc in omega arith)) (few-over (again v) e f) (over-with (again v)) (omega arith) (omega arith)
+      says-with (replaced v) _ (n + 1) (λ d. absurd (let q : _≡_ {A = ℕ} 0 1 = cc in omega arith), λ d. absurd (let q : _≡_ {A = ℕ} 0 1 = cc in omega arith), λ d y. stale e f z y, λ d. absurd (let q : _≡_ {A = ℕ} 0 1 = cc in omega arith)) (few-over (replaced v) e f) (over-with (replaced v)) (omega arith) (omega arith)
 
   -- put where there is neither entry nor coin
-  pub put-made : (v : Coin) → entry-at k es ≡ None → coin-at k m ≡ None → length es < 64 → n < most → Says (with-entry k (made v) es) room (n + 1) m most (with-coin k v (over-below es m))
-  put-made v f z r l =
+  pub put-created : (v : Coin) → entry-at k es ≡ None → coin-at k m ≡ None → length es < 64 → n < most → Says (with-entry k (created v) es) room (n + 1) m most (with-coin k v (over-below es m))
+  put-created v f z r l =
       let none : coin-at k (over-below es m) ≡ None = over-at es room n m most h s k None f ∙ z in
       let long = length-insert outpoints k v (over-below es m) none in
       let c = h .counted in
-      says-with (made v) _ (n + 1) (λ d. absurd (let q : _≡_ {A = ℕ} 0 1 = cc in omega arith), λ d. z, λ d. absurd (let q : _≡_ {A = ℕ} 0 1 = cc in omega arith), λ d y. absurd (let q : _≡_ {A = ℕ} 0 1 = cc in omega arith)) (few-new (made v) f r) (over-with (made v)) (omega arith) (omega arith)
+      says-with (created v) _ (n + 1) (λ d. absurd (let q : _≡_ {A = ℕ} 0 1 = cc in omega arith), λ d. z, λ d. absurd (let q : _≡_ {A = ℕ} 0 1 = cc in omega arith), λ d y. absurd (let q : _≡_ {A = ℕ} 0 1 = cc in omega arith)) (few-new (created v) f r) (over-with (created v)) (omega arith) (omega arith)
 
   -- take where there is a coin, which leaves a spent entry
   pub take-spent : (v : Coin) → coin-at k (over-below es m) ≡ Some v → (coin-at k m ≡ None → ⊥) → length (with-entry k spent es) ≤ 64 → Says (with-entry k spent es) room (n - 1) m most (without k (over-below es m))

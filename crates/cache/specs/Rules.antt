@@ -20,7 +20,7 @@ use Rattle.maps.specs.Keyed.{outpoints}
 use Rattle.coinsview.specs.Meaning.{Coins}
 use Rattle.coinsview.specs.declared.fault.ViewFault.{ViewFault}
 use Rattle.entries.specs.declared.table.Entry.{Entry}
-use Rattle.entries.specs.Entries.{Entries, entry-at, with-entry, without-entry, clean, made, again, spent}
+use Rattle.entries.specs.Entries.{Entries, entry-at, with-entry, without-entry, clean, created, replaced, spent}
 
 abbrev pub marks : Marks Coin Entry
 marks = record { value = λ e. e .coin; dirty = λ e. e .dirty; fresh = λ e. e .fresh }
@@ -56,8 +56,8 @@ room-under None es m = below-with-room es m
 -- ---- put, by its answer
 
 abbrev pub put-entry : Option Entry → Outpoint → Coin → Entries → Entries
-put-entry (Some e) k c es = with-entry k (again c) es
-put-entry None k c es = with-entry k (made c) (with-room es)
+put-entry (Some e) k c es = with-entry k (replaced c) es
+put-entry None k c es = with-entry k (created c) (with-room es)
 
 abbrev pub put-entries : Result Unit ViewFault → Outpoint → Coin → Entries → Entries
 put-entries (Ok u) k c es = put-entry (entry-at k es) k c es

@@ -8,10 +8,11 @@ ghost use Rattle.std.specs.Vec.{made};
 ghost use Rattle.std.specs.declared.result.Result.the-variants.{Err};
 ghost use Rattle.maps.specs.Keyed.{outpoints};
 ghost use Rattle.maps.specs.Search.{Found};
+ghost use Rattle.coinsview.specs.Made.{Means};
 ghost use Rattle.coinsview.specs.Meaning.{coin-at, without, put-answer, put-map, next-in};
 ghost use Rattle.entries.specs.Entries.{with-entry};
-ghost use Rattle.cache.specs.Kept.{Kept, sorted-over};
-ghost use Rattle.cache.specs.Parts.{entries-of, map-of, InOrder};
+ghost use Rattle.cache.specs.Kept.{Kept};
+ghost use Rattle.cache.specs.Parts.{CacheOk, cache-view, entries-of, below-of, room-of, map-of};
 ghost use Rattle.cache.specs.Rules.{with-room, below-with-room, put-entries, put-under, take-entries, take-under, look-entries, spilled-below};
 use crate::spill::put_dirty;
 use crate::spill::take_dirty;
@@ -38,7 +39,7 @@ impl<V: CoinsView + Drop> Cache<V> {
     // An empty cache over a view, or no memory for its entries.
     pub fn new(heap: Global, below: V) -> Result<Cache<V>, AllocError>
         requires { ⌜ V·CoinsView .ok below ⌝ }
-        ensures { λ r. ⌜ made r (λ c. V·CoinsView .ok (c .below) × InOrder (V·CoinsView .coins) (V·CoinsView .most) c × (c .below ≡ below) × (entries-of c ≡ []) × (map-of (V·CoinsView .coins) c ≡ V·CoinsView .coins below)) ⌝ }
+        ensures { λ r. ⌜ made r (λ c. Means (cache-view V·CoinsView) (V·CoinsView .most below) (V·CoinsView .coins below) (V·CoinsView .bottom below) c × (entries-of c ≡ [])) ⌝ }
     {
         let count = below.count();
         let table = EntryTable::new(heap)?;
@@ -53,14 +54,13 @@ impl<V: CoinsView + Drop> Cache<V> {
 impl<V: CoinsView> Cache<V> {
     // Writes the entries into the view below, and drops them.
     fn spill(&mut self)
-        requires ok { ⌜ V·CoinsView .ok (now self .below) ⌝ }
-        requires kept { ⌜ InOrder (V·CoinsView .coins) (V·CoinsView .most) (now self) ⌝ }
+        requires { ⌜ CacheOk V·CoinsView (now self) ⌝ }
         ensures ok { λ _. ⌜ V·CoinsView .ok (now (self .exit) .below) ⌝ }
-        ensures kept { λ _. ⌜ Kept [] (vec-cap (now (self .exit) .table .entries)) (now (self .exit) .count) (V·CoinsView .coins (now (self .exit) .below)) (V·CoinsView .most (now (self .exit) .below)) ⌝ }
+        ensures kept { λ _. ⌜ Kept [] (vec-cap (now (self .exit) .table .entries)) (now (self .exit) .count) (below-of V·CoinsView (now (self .exit))) (room-of V·CoinsView (now (self .exit))) ⌝ }
         ensures entries { λ _. ⌜ entries-of (now (self .exit)) ≡ [] ⌝ }
-        ensures written { λ _. ⌜ V·CoinsView .coins (now (self .exit) .below) ≡ spilled-below (entries-of (now (self .entry))) (V·CoinsView .coins (now (self .entry) .below)) ⌝ }
-        ensures map { λ _. ⌜ V·CoinsView .coins (now (self .exit) .below) ≡ map-of (V·CoinsView .coins) (now (self .entry)) ⌝ }
-        ensures fixed { λ _. ⌜ V·CoinsView .most (now (self .exit) .below) ≡ V·CoinsView .most (now (self .entry) .below) ⌝ }
+        ensures written { λ _. ⌜ below-of V·CoinsView (now (self .exit)) ≡ spilled-below (entries-of (now (self .entry))) (below-of V·CoinsView (now (self .entry))) ⌝ }
+        ensures map { λ _. ⌜ below-of V·CoinsView (now (self .exit)) ≡ map-of V·CoinsView (now (self .entry)) ⌝ }
+        ensures fixed { λ _. ⌜ room-of V·CoinsView (now (self .exit)) ≡ room-of V·CoinsView (now (self .entry)) ⌝ }
         ensures count { λ _. ⌜ now (self .exit) .count ≡ now (self .entry) .count ⌝ }
     {
         take_dirty(&mut self.below, self.table.entries.as_slice());
@@ -70,39 +70,38 @@ impl<V: CoinsView> Cache<V> {
 
     // One entry more, after a spill where there are 64.
     fn enter(&mut self, i: usize, at: Outpoint, entry: Entry)
-        requires ok { ⌜ V·CoinsView .ok (now self .below) ⌝ }
-        requires kept { ⌜ InOrder (V·CoinsView .coins) (V·CoinsView .most) (now self) ⌝ }
+        requires well { ⌜ CacheOk V·CoinsView (now self) ⌝ }
         requires here { ⌜ Found outpoints at (entries-of (now self)) (Err i) ⌝ }
         ensures ok { λ _. ⌜ V·CoinsView .ok (now (self .exit) .below) ⌝ }
         ensures held { λ _. ⌜ 64 ≤ vec-cap (now (self .exit) .table .entries) ⌝ }
         ensures entries { λ _. ⌜ entries-of (now (self .exit)) ≡ with-entry at entry (with-room (entries-of (now (self .entry)))) ⌝ }
-        ensures below { λ _. ⌜ V·CoinsView .coins (now (self .exit) .below) ≡ below-with-room (entries-of (now (self .entry))) (V·CoinsView .coins (now (self .entry) .below)) ⌝ }
-        ensures fixed { λ _. ⌜ V·CoinsView .most (now (self .exit) .below) ≡ V·CoinsView .most (now (self .entry) .below) ⌝ }
+        ensures below { λ _. ⌜ below-of V·CoinsView (now (self .exit)) ≡ below-with-room (entries-of (now (self .entry))) (below-of V·CoinsView (now (self .entry))) ⌝ }
+        ensures fixed { λ _. ⌜ room-of V·CoinsView (now (self .exit)) ≡ room-of V·CoinsView (now (self .entry)) ⌝ }
         ensures count { λ _. ⌜ now (self .exit) .count ≡ now (self .entry) .count ⌝ }
     {
-        if self.table.entries.len() < MOST_ENTRIES {
+        if self.table.entries.len() == MOST_ENTRIES {
+            self.spill();
+            self.table.add(0, at, entry);
+        } else {
             self.table.add(i, at, entry);
-            return;
         }
-        self.spill();
-        self.table.add(0, at, entry);
     }
 }
 
 pub impl<V: CoinsView> CoinsView for Cache<V> as CacheView {
-    ghost ok = { λ s. V·CoinsView .ok (s .below) × InOrder (V·CoinsView .coins) (V·CoinsView .most) s };
+    ghost ok = { cache-view V·CoinsView .ok };
 
-    ghost most = { λ s. V·CoinsView .most (s .below) };
+    ghost most = { cache-view V·CoinsView .most };
 
-    ghost coins = { λ s. map-of (V·CoinsView .coins) s };
+    ghost coins = { cache-view V·CoinsView .coins };
 
-    ghost bottom = { λ s. V·CoinsView .bottom (s .below) };
+    ghost bottom = { cache-view V·CoinsView .bottom };
 
-    ghost sorted = { λ s h. sorted-over (entries-of s) (V·CoinsView .coins (s .below)) (V·CoinsView .sorted (s .below) (h .0)) };
+    ghost sorted = { cache-view V·CoinsView .sorted };
 
-    ghost few = { λ s h. h .1 .fits };
+    ghost few = { cache-view V·CoinsView .few };
 
-    ghost small = { λ s h. V·CoinsView .small (s .below) (h .0) };
+    ghost small = { cache-view V·CoinsView .small };
 
     fn capacity(&self) -> usize {
         self.below.capacity()
@@ -113,13 +112,13 @@ pub impl<V: CoinsView> CoinsView for Cache<V> as CacheView {
     }
 
     fn look(&mut self, at: &Outpoint) -> Option<Coin>
-        requires { ⌜ V·CoinsView .ok (now self .below) × InOrder (V·CoinsView .coins) (V·CoinsView .most) (now self) ⌝ }
-        ensures well { λ _. ⌜ V·CoinsView .ok (now (self .exit) .below) × InOrder (V·CoinsView .coins) (V·CoinsView .most) (now (self .exit)) ⌝ }
-        ensures fixed { λ _. ⌜ V·CoinsView .most (now (self .exit) .below) ≡ V·CoinsView .most (now (self .entry) .below) ⌝ }
-        ensures map { λ _. ⌜ map-of (V·CoinsView .coins) (now (self .exit)) ≡ map-of (V·CoinsView .coins) (now (self .entry)) ⌝ }
-        ensures value { λ r. ⌜ r ≡ coin-at (now (at .entry)) (map-of (V·CoinsView .coins) (now (self .entry))) ⌝ }
+        requires { ⌜ CacheOk V·CoinsView (now self) ⌝ }
+        ensures well { λ _. ⌜ CacheOk V·CoinsView (now (self .exit)) ⌝ }
+        ensures fixed { λ _. ⌜ room-of V·CoinsView (now (self .exit)) ≡ room-of V·CoinsView (now (self .entry)) ⌝ }
+        ensures map { λ _. ⌜ map-of V·CoinsView (now (self .exit)) ≡ map-of V·CoinsView (now (self .entry)) ⌝ }
+        ensures value { λ r. ⌜ r ≡ coin-at (now (at .entry)) (map-of V·CoinsView (now (self .entry))) ⌝ }
         ensures entries { λ r. ⌜ entries-of (now (self .exit)) ≡ look-entries r (now (at .entry)) (entries-of (now (self .entry))) ⌝ }
-        ensures below { λ _. ⌜ V·CoinsView .coins (now (self .exit) .below) ≡ V·CoinsView .coins (now (self .entry) .below) ⌝ }
+        ensures below { λ _. ⌜ below-of V·CoinsView (now (self .exit)) ≡ below-of V·CoinsView (now (self .entry)) ⌝ }
     {
         match self.table.find(at) {
             Ok(i) => {
@@ -131,15 +130,7 @@ pub impl<V: CoinsView> CoinsView for Cache<V> as CacheView {
                     return None;
                 };
                 if self.table.entries.len() < MOST_ENTRIES {
-                    self.table.add(
-                        i,
-                        *at,
-                        Entry {
-                            coin: Some(coin),
-                            dirty: false,
-                            fresh: false,
-                        },
-                    );
+                    self.table.add(i, *at, Entry::clean(coin));
                 }
                 Some(coin)
             }
@@ -147,13 +138,13 @@ pub impl<V: CoinsView> CoinsView for Cache<V> as CacheView {
     }
 
     fn next(&mut self, from: Option<&Outpoint>) -> Option<(Outpoint, Coin)>
-        requires { ⌜ V·CoinsView .ok (now self .below) × InOrder (V·CoinsView .coins) (V·CoinsView .most) (now self) ⌝ }
-        ensures well { λ _. ⌜ V·CoinsView .ok (now (self .exit) .below) × InOrder (V·CoinsView .coins) (V·CoinsView .most) (now (self .exit)) ⌝ }
-        ensures fixed { λ _. ⌜ V·CoinsView .most (now (self .exit) .below) ≡ V·CoinsView .most (now (self .entry) .below) ⌝ }
-        ensures map { λ _. ⌜ map-of (V·CoinsView .coins) (now (self .exit)) ≡ map-of (V·CoinsView .coins) (now (self .entry)) ⌝ }
-        ensures value { λ r. ⌜ r ≡ next-in (mapped now (from .entry)) (map-of (V·CoinsView .coins) (now (self .entry))) ⌝ }
+        requires { ⌜ CacheOk V·CoinsView (now self) ⌝ }
+        ensures well { λ _. ⌜ CacheOk V·CoinsView (now (self .exit)) ⌝ }
+        ensures fixed { λ _. ⌜ room-of V·CoinsView (now (self .exit)) ≡ room-of V·CoinsView (now (self .entry)) ⌝ }
+        ensures map { λ _. ⌜ map-of V·CoinsView (now (self .exit)) ≡ map-of V·CoinsView (now (self .entry)) ⌝ }
+        ensures value { λ r. ⌜ r ≡ next-in (mapped now (from .entry)) (map-of V·CoinsView (now (self .entry))) ⌝ }
         ensures entries { λ _. ⌜ entries-of (now (self .exit)) ≡ entries-of (now (self .entry)) ⌝ }
-        ensures below { λ _. ⌜ V·CoinsView .coins (now (self .exit) .below) ≡ V·CoinsView .coins (now (self .entry) .below) ⌝ }
+        ensures below { λ _. ⌜ below-of V·CoinsView (now (self .exit)) ≡ below-of V·CoinsView (now (self .entry)) ⌝ }
     {
         let start = self.table.above(from);
         next_over(
@@ -165,24 +156,25 @@ pub impl<V: CoinsView> CoinsView for Cache<V> as CacheView {
     }
 
     fn put(&mut self, at: Outpoint, coin: Coin) -> Result<(), ViewFault>
-        requires { ⌜ V·CoinsView .ok (now self .below) × InOrder (V·CoinsView .coins) (V·CoinsView .most) (now self) ⌝ }
-        ensures well { λ _. ⌜ V·CoinsView .ok (now (self .exit) .below) × InOrder (V·CoinsView .coins) (V·CoinsView .most) (now (self .exit)) ⌝ }
-        ensures fixed { λ _. ⌜ V·CoinsView .most (now (self .exit) .below) ≡ V·CoinsView .most (now (self .entry) .below) ⌝ }
-        ensures map { λ r. ⌜ map-of (V·CoinsView .coins) (now (self .exit)) ≡ put-map r at coin (map-of (V·CoinsView .coins) (now (self .entry))) ⌝ }
-        ensures value { λ r. ⌜ r ≡ put-answer (V·CoinsView .most (now (self .entry) .below)) at (map-of (V·CoinsView .coins) (now (self .entry))) ⌝ }
+        requires { ⌜ CacheOk V·CoinsView (now self) ⌝ }
+        ensures well { λ _. ⌜ CacheOk V·CoinsView (now (self .exit)) ⌝ }
+        ensures fixed { λ _. ⌜ room-of V·CoinsView (now (self .exit)) ≡ room-of V·CoinsView (now (self .entry)) ⌝ }
+        ensures map { λ r. ⌜ map-of V·CoinsView (now (self .exit)) ≡ put-map r at coin (map-of V·CoinsView (now (self .entry))) ⌝ }
+        ensures value { λ r. ⌜ r ≡ put-answer (room-of V·CoinsView (now (self .entry))) at (map-of V·CoinsView (now (self .entry))) ⌝ }
         ensures entries { λ r. ⌜ entries-of (now (self .exit)) ≡ put-entries r at coin (entries-of (now (self .entry))) ⌝ }
-        ensures below { λ r. ⌜ V·CoinsView .coins (now (self .exit) .below) ≡ put-under r at (entries-of (now (self .entry))) (V·CoinsView .coins (now (self .entry) .below)) ⌝ }
+        ensures below { λ r. ⌜ below-of V·CoinsView (now (self .exit)) ≡ put-under r at (entries-of (now (self .entry))) (below-of V·CoinsView (now (self .entry))) ⌝ }
     {
+        let most = self.capacity();
         match self.table.find(&at) {
             Ok(i) => {
                 let (_, e) = self.table.entries[i];
                 if let Some(_) = e.coin {
                     return Err(ViewFault::Exists);
                 }
-                if self.count >= self.below.capacity() {
+                if self.count >= most {
                     return Err(ViewFault::Full);
                 }
-                self.table.put_again(i, &at, coin);
+                self.table.replace(i, &at, coin);
                 self.count += 1;
                 Ok(())
             }
@@ -190,18 +182,10 @@ pub impl<V: CoinsView> CoinsView for Cache<V> as CacheView {
                 if let Some(_) = self.below.look(&at) {
                     return Err(ViewFault::Exists);
                 }
-                if self.count >= self.below.capacity() {
+                if self.count >= most {
                     return Err(ViewFault::Full);
                 }
-                self.enter(
-                    i,
-                    at,
-                    Entry {
-                        coin: Some(coin),
-                        dirty: true,
-                        fresh: true,
-                    },
-                );
+                self.enter(i, at, Entry::created(coin));
                 self.count += 1;
                 Ok(())
             }
@@ -209,13 +193,13 @@ pub impl<V: CoinsView> CoinsView for Cache<V> as CacheView {
     }
 
     fn take(&mut self, at: &Outpoint) -> Option<Coin>
-        requires { ⌜ V·CoinsView .ok (now self .below) × InOrder (V·CoinsView .coins) (V·CoinsView .most) (now self) ⌝ }
-        ensures well { λ _. ⌜ V·CoinsView .ok (now (self .exit) .below) × InOrder (V·CoinsView .coins) (V·CoinsView .most) (now (self .exit)) ⌝ }
-        ensures fixed { λ _. ⌜ V·CoinsView .most (now (self .exit) .below) ≡ V·CoinsView .most (now (self .entry) .below) ⌝ }
-        ensures map { λ _. ⌜ map-of (V·CoinsView .coins) (now (self .exit)) ≡ without (now (at .entry)) (map-of (V·CoinsView .coins) (now (self .entry))) ⌝ }
-        ensures value { λ r. ⌜ r ≡ coin-at (now (at .entry)) (map-of (V·CoinsView .coins) (now (self .entry))) ⌝ }
+        requires { ⌜ CacheOk V·CoinsView (now self) ⌝ }
+        ensures well { λ _. ⌜ CacheOk V·CoinsView (now (self .exit)) ⌝ }
+        ensures fixed { λ _. ⌜ room-of V·CoinsView (now (self .exit)) ≡ room-of V·CoinsView (now (self .entry)) ⌝ }
+        ensures map { λ _. ⌜ map-of V·CoinsView (now (self .exit)) ≡ without (now (at .entry)) (map-of V·CoinsView (now (self .entry))) ⌝ }
+        ensures value { λ r. ⌜ r ≡ coin-at (now (at .entry)) (map-of V·CoinsView (now (self .entry))) ⌝ }
         ensures entries { λ r. ⌜ entries-of (now (self .exit)) ≡ take-entries r (now (at .entry)) (entries-of (now (self .entry))) ⌝ }
-        ensures below { λ r. ⌜ V·CoinsView .coins (now (self .exit) .below) ≡ take-under r (now (at .entry)) (entries-of (now (self .entry))) (V·CoinsView .coins (now (self .entry) .below)) ⌝ }
+        ensures below { λ r. ⌜ below-of V·CoinsView (now (self .exit)) ≡ take-under r (now (at .entry)) (entries-of (now (self .entry))) (below-of V·CoinsView (now (self .entry))) ⌝ }
     {
         match self.table.find(at) {
             Ok(i) => {
@@ -236,15 +220,7 @@ pub impl<V: CoinsView> CoinsView for Cache<V> as CacheView {
                 let Some(coin) = self.below.look(at) else {
                     return None;
                 };
-                self.enter(
-                    i,
-                    *at,
-                    Entry {
-                        coin: None,
-                        dirty: true,
-                        fresh: false,
-                    },
-                );
+                self.enter(i, *at, Entry::spent());
                 self.count -= 1;
                 Some(coin)
             }
@@ -252,13 +228,13 @@ pub impl<V: CoinsView> CoinsView for Cache<V> as CacheView {
     }
 
     fn flush(&mut self)
-        requires { ⌜ V·CoinsView .ok (now self .below) × InOrder (V·CoinsView .coins) (V·CoinsView .most) (now self) ⌝ }
-        ensures well { λ _. ⌜ V·CoinsView .ok (now (self .exit) .below) × InOrder (V·CoinsView .coins) (V·CoinsView .most) (now (self .exit)) ⌝ }
-        ensures fixed { λ _. ⌜ V·CoinsView .most (now (self .exit) .below) ≡ V·CoinsView .most (now (self .entry) .below) ⌝ }
-        ensures map { λ _. ⌜ map-of (V·CoinsView .coins) (now (self .exit)) ≡ map-of (V·CoinsView .coins) (now (self .entry)) ⌝ }
-        ensures bottom { λ _. ⌜ V·CoinsView .bottom (now (self .exit) .below) ≡ map-of (V·CoinsView .coins) (now (self .entry)) ⌝ }
+        requires { ⌜ CacheOk V·CoinsView (now self) ⌝ }
+        ensures well { λ _. ⌜ CacheOk V·CoinsView (now (self .exit)) ⌝ }
+        ensures fixed { λ _. ⌜ room-of V·CoinsView (now (self .exit)) ≡ room-of V·CoinsView (now (self .entry)) ⌝ }
+        ensures map { λ _. ⌜ map-of V·CoinsView (now (self .exit)) ≡ map-of V·CoinsView (now (self .entry)) ⌝ }
+        ensures bottom { λ _. ⌜ V·CoinsView .bottom (now (self .exit) .below) ≡ map-of V·CoinsView (now (self .entry)) ⌝ }
         ensures entries { λ _. ⌜ entries-of (now (self .exit)) ≡ [] ⌝ }
-        ensures below { λ _. ⌜ V·CoinsView .coins (now (self .exit) .below) ≡ spilled-below (entries-of (now (self .entry))) (V·CoinsView .coins (now (self .entry) .below)) ⌝ }
+        ensures below { λ _. ⌜ below-of V·CoinsView (now (self .exit)) ≡ spilled-below (entries-of (now (self .entry))) (below-of V·CoinsView (now (self .entry))) ⌝ }
     {
         self.spill();
         self.below.flush();

@@ -1,5 +1,6 @@
 pub mod Fault
 pub mod Meaning
-pub mod Table
 pub mod Kept
+pub mod Made
+pub mod Table
 pub mod Quota

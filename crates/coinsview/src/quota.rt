@@ -1,8 +1,8 @@
 // A quota over any view: as the view below, with a smaller capacity.
-ghost use mathlib.Core.Path.{_≡_};
-ghost use Prim.Native.Nat.{_≤_, min, max};
+ghost use Prim.Native.Nat.{min, max};
 ghost use lib.ListN.{length};
-ghost use Rattle.coinsview.specs.Quota.{QuotaOk, no-more};
+ghost use Rattle.coinsview.specs.Made.{Means};
+ghost use Rattle.coinsview.specs.Quota.{quota-view};
 use crate::fault::ViewFault;
 use crate::view::CoinsView;
 use coins::coin::Coin;
@@ -18,9 +18,7 @@ impl<V: CoinsView> Quota<V> {
     // The capacity is the smaller of `limit` and the capacity below, or the count below where that is more.
     pub fn new(below: V, limit: usize) -> Quota<V>
         requires { ⌜ V·CoinsView .ok below ⌝ }
-        ensures ok { λ r. ⌜ V·CoinsView .ok (r .below) × QuotaOk (r .limit) (V·CoinsView .most (r .below)) (V·CoinsView .coins (r .below)) ⌝ }
-        ensures below { λ r. ⌜ r .below ≡ below ⌝ }
-        ensures most { λ r. ⌜ r .limit ≡ max (min limit (V·CoinsView .most below)) (length (V·CoinsView .coins below)) ⌝ }
+        ensures { λ r. ⌜ Means (quota-view V·CoinsView) (max (min limit (V·CoinsView .most below)) (length (V·CoinsView .coins below))) (V·CoinsView .coins below) (V·CoinsView .bottom below) r ⌝ }
     {
         let limit = limit.min(below.capacity()).max(below.count());
         Quota { below, limit }
@@ -28,19 +26,19 @@ impl<V: CoinsView> Quota<V> {
 }
 
 pub impl<V: CoinsView> CoinsView for Quota<V> as QuotaView {
-    ghost ok = { λ s. V·CoinsView .ok (s .below) × QuotaOk (s .limit) (V·CoinsView .most (s .below)) (V·CoinsView .coins (s .below)) };
+    ghost ok = { quota-view V·CoinsView .ok };
 
-    ghost most = { λ s. s .limit };
+    ghost most = { quota-view V·CoinsView .most };
 
-    ghost coins = { λ s. V·CoinsView .coins (s .below) };
+    ghost coins = { quota-view V·CoinsView .coins };
 
-    ghost bottom = { λ s. V·CoinsView .bottom (s .below) };
+    ghost bottom = { quota-view V·CoinsView .bottom };
 
-    ghost sorted = { λ s h. V·CoinsView .sorted (s .below) (h .0) };
+    ghost sorted = { quota-view V·CoinsView .sorted };
 
-    ghost few = { λ s h. h .1 .few };
+    ghost few = { quota-view V·CoinsView .few };
 
-    ghost small = { λ s h. no-more (h .1 .within) (V·CoinsView .small (s .below) (h .0)) };
+    ghost small = { quota-view V·CoinsView .small };
 
     fn capacity(&self) -> usize {
         self.limit

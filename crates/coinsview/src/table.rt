@@ -1,15 +1,14 @@
 // A table of coins in the caller's cells, one coin a cell, the used ones in the order of their outpoints.
 ghost use mathlib.Core.Path.{_≡_};
 ghost use mathlib.Core.List.{[]};
-ghost use Prim.Native.Nat.{ℕ, _≤_, min};
+ghost use Prim.Native.Nat.{min};
 ghost use lib.ListN.{length};
-ghost use denote.Ref.{now};
 ghost use Rattle.std.specs.Finite.{nth};
 ghost use Rattle.maps.specs.Maps.{after};
 ghost use Rattle.maps.specs.Keyed.{outpoints};
 ghost use Rattle.maps.specs.Search.{Found};
-ghost use Rattle.coinsview.specs.Kept.{take-few};
-ghost use Rattle.coinsview.specs.Table.{TableOk, used-cells};
+ghost use Rattle.coinsview.specs.Made.{Means};
+ghost use Rattle.coinsview.specs.Table.{coins-of, table-view};
 use crate::fault::ViewFault;
 use crate::shift::insert_at;
 use crate::shift::remove_at;
@@ -48,9 +47,7 @@ pub struct FlatTable<'a> {
 impl<'a> FlatTable<'a> {
     // An empty table over the cells, of which it uses the first 4,096 at most.
     pub fn new(cells: &'a mut [(Outpoint, Coin)]) -> FlatTable<'a>
-        ensures ok { λ r. ⌜ TableOk (r .used) (now (r .cells)) ⌝ }
-        ensures empty { λ r. ⌜ used-cells (r .used) (now (r .cells)) ≡ [] ⌝ }
-        ensures most { λ r. ⌜ length (now (r .cells)) ≡ min (length (now (cells .entry))) 4096 ⌝ }
+        ensures { λ r. ⌜ Means table-view (min (length (now (cells .entry))) 4096) [] [] r ⌝ }
     {
         for cell in cells.iter_mut() {
             *cell = EMPTY;
@@ -66,8 +63,8 @@ impl<'a> FlatTable<'a> {
 impl FlatTable<'_> {
     // The place of k among the used cells, as `Ok` where it has a coin.
     fn find(&self, k: &Outpoint) -> Result<usize, usize>
-        requires { ⌜ TableOk (now self .used) (now (now self .cells)) ⌝ }
-        ensures { λ r. ⌜ Found outpoints (now (k .entry)) (used-cells (now (self .entry) .used) (now (now (self .entry) .cells))) r ⌝ }
+        requires { ⌜ table-view .ok (now self) ⌝ }
+        ensures { λ r. ⌜ Found outpoints (now (k .entry)) (coins-of (now (self .entry))) r ⌝ }
     {
         let used = self.used;
         let cells = &*self.cells;
@@ -76,8 +73,8 @@ impl FlatTable<'_> {
 
     // The place of the first outpoint above k.
     fn above(&self, k: &Outpoint) -> usize
-        requires { ⌜ TableOk (now self .used) (now (now self .cells)) ⌝ }
-        ensures { λ r. ⌜ after outpoints (now (k .entry)) (used-cells (now (self .entry) .used) (now (now (self .entry) .cells))) ≡ nth (used-cells (now (self .entry) .used) (now (now (self .entry) .cells))) r ⌝ }
+        requires { ⌜ table-view .ok (now self) ⌝ }
+        ensures { λ r. ⌜ after outpoints (now (k .entry)) (coins-of (now (self .entry))) ≡ nth (coins-of (now (self .entry))) r ⌝ }
     {
         match self.find(k) {
             Ok(i) => i + 1,
@@ -87,19 +84,19 @@ impl FlatTable<'_> {
 }
 
 pub impl CoinsView for FlatTable<'_> as FlatTableView {
-    ghost ok = { λ s. TableOk (s .used) (now (s .cells)) };
+    ghost ok = { table-view .ok };
 
-    ghost most = { λ s. length (now (s .cells)) };
+    ghost most = { table-view .most };
 
-    ghost coins = { λ s. used-cells (s .used) (now (s .cells)) };
+    ghost coins = { table-view .coins };
 
-    ghost bottom = { λ s. used-cells (s .used) (now (s .cells)) };
+    ghost bottom = { table-view .bottom };
 
-    ghost sorted = { λ s h. h .sorted };
+    ghost sorted = { table-view .sorted };
 
-    ghost few = { λ s h. take-few (s .used) (now (s .cells)) (h .within) };
+    ghost few = { table-view .few };
 
-    ghost small = { λ s h. h .small };
+    ghost small = { table-view .small };
 
     fn capacity(&self) -> usize {
         self.cells.len()

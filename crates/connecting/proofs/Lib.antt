@@ -1,1 +1,4 @@
+pub mod Conserved
 pub mod Halvings
+pub mod Tests
+pub mod Undone

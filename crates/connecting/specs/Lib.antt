@@ -1,3 +1,6 @@
+pub mod Parts
 pub mod Refusals
 pub mod Rules
 pub mod Subsidy
+pub mod Undoing
+pub mod Value

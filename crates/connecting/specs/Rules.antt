@@ -34,14 +34,12 @@ use Rattle.connecting.specs.declared.fault.BlockFault.{BlockFault}
 use Rattle.connecting.specs.declared.fault.BlockFault.the-variants.{Parent, LastHeight, LogFull, NoCoinbase, Claim, Transaction}
 use Rattle.connecting.specs.declared.apply.Sums.{Sums}
 
--- what a ledger is started with, beside its capacity and its condition
+-- what the effect of a block depends on, beside the coins and its height: the capacity, the condition, the halving interval and the maturity
 pub record Setting : Type 0 where
   pub room : ℕ
   pub opens : Lock → List ℕ → ℕ → Bool
   pub halving : ℕ
   pub maturity : ℕ
-  pub last : ℕ
-  pub start : List ℕ
 
 -- a step and then another, unless the first refuses
 abbrev pub then : {X Y F : Type 0} → Result X F → (X → Result Y F) → Result Y F
@@ -170,42 +168,44 @@ coin-of y h b = coin-by (y .value) (leb-tells (y .value) 2100000000000000) (y .l
 abbrev pub Paid : Type 0
 Paid = Coins × ℕ
 
-module _ (s : Setting) (h : ℕ) where
+module _ (opens : Lock → List ℕ → ℕ → Bool) (maturity h : ℕ) where
   -- an input at height h, by the coin that is there: it is there, old enough, and opened by the witness
   abbrev pub spend : Option Coin → List ℕ → Result Coin InputFault
   spend None w = Err Missing
-  spend (Some c) w = cond (c .coinbase && ltb (h - c .height) (s .maturity)) (Err Immature) (cond (s .opens (c .lock) w h) (Ok c) (Err Shut))
+  spend (Some c) w = cond (c .coinbase && ltb (h - c .height) maturity) (Err Immature) (cond (opens (c .lock) w h) (Ok c) (Err Shut))
 
   -- the inputs from place i on: each is tested, and its coin taken
   abbrev pub spend-all : ℕ → List InputValue → Coins → ℕ → Result Paid TransactionFault
   spend-all i [] m paid = Ok (m, paid)
   spend-all i (x ∷ xs) m paid = then (at-item i (spend (coin-at (x .outpoint) m) (x .witness))) (λ c. spend-all (i + 1) xs (without (x .outpoint) m) (paid + c .value))
 
+module _ (room h : ℕ) where
   -- one output at place i of a transaction, by the coin that it makes
   abbrev pub make : List ℕ → ℕ → Option Coin → Coins → Result Coins TransactionFault
   make id i None m = Err (Money i)
-  make id i (Some c) m = then (at-item i (of-view (put-answer (s .room) (record { id = id; index = i }) m))) (λ _. Ok (with-coin (record { id = id; index = i }) c m))
+  make id i (Some c) m = then (at-item i (of-view (put-answer room (record { id = id; index = i }) m))) (λ _. Ok (with-coin (record { id = id; index = i }) c m))
 
   -- the outputs from place i on, those that burn aside
   abbrev pub make-all : List ℕ → Bool → ℕ → List OutputValue → Coins → Result Coins TransactionFault
   make-all id b i [] m = Ok m
   make-all id b i (y ∷ ys) m = then (cond (burns y) (Ok m) (make id i (coin-of y h b) m)) (λ n. make-all id b (i + 1) ys n)
 
+abbrev pub none : Sums
+none = record { made = 0; spent = 0; fees = 0; burned = 0 }
+
+abbrev pub added : Sums → Sums → Sums
+added a b = record { made = a .made + b .made; spent = a .spent + b .spent; fees = a .fees + b .fees; burned = a .burned + b .burned }
+
+module _ (s : Setting) (h : ℕ) where
   -- a transaction after the coinbase: its coins are taken, its inputs are worth its outputs, its coins are put
   abbrev pub spending : TransactionValue → Coins → Result (Coins × Sums) TransactionFault
   spending x m =
-      then (spend-all 0 (x .inputs) m 0) (λ p. cond (ltb (p .1) (worth (x .outputs))) (Err Under) (then (make-all (x .id) false 0 (x .outputs) (p .0)) (λ n. Ok (n, record { made = coins-made (x .outputs); spent = length (x .inputs); fees = p .1 - worth (x .outputs); burned = value-burned (x .outputs) }))))
-
-  abbrev pub added : Sums → Sums → Sums
-  added a b = record { made = a .made + b .made; spent = a .spent + b .spent; fees = a .fees + b .fees; burned = a .burned + b .burned }
+      then (spend-all (s .opens) (s .maturity) h 0 (x .inputs) m 0) (λ p. cond (ltb (p .1) (worth (x .outputs))) (Err Under) (then (make-all (s .room) h (x .id) false 0 (x .outputs) (p .0)) (λ n. Ok (n, record { made = coins-made (x .outputs); spent = length (x .inputs); fees = p .1 - worth (x .outputs); burned = value-burned (x .outputs) }))))
 
   -- the transactions from place t on, with what those before came to
   abbrev pub spending-all : ℕ → List TransactionValue → Coins → Sums → Result (Coins × Sums) BlockFault
   spending-all t [] m a = Ok (m, a)
   spending-all t (x ∷ xs) m a = then (at-transaction t (spending x m)) (λ r. spending-all (t + 1) xs (r .0) (added a (r .1)))
-
-  abbrev pub none : Sums
-  none = record { made = 0; spent = 0; fees = 0; burned = 0 }
 
   -- what the block comes to, with its coinbase x and what the others came to
   abbrev pub whole : TransactionValue → Sums → Sums
@@ -216,7 +216,8 @@ module _ (s : Setting) (h : ℕ) where
     burned = (subsidy-at (s .halving) h + a .fees - worth (x .outputs)) + value-burned (x .outputs) + a .burned;
   }
 
+  -- a block: its coinbase puts its coins, the other transactions are applied in order, and the coinbase claims no more than subsidy and fees
   abbrev pub effect : List TransactionValue → Coins → Result (Coins × Sums) BlockFault
   effect [] m = Err NoCoinbase
   effect (x ∷ xs) m =
-      then (at-transaction 0 (make-all (x .id) true 0 (x .outputs) m)) (λ n. then (spending-all 1 xs n none) (λ r. cond (ltb (subsidy-at (s .halving) h + r .1 .fees) (worth (x .outputs))) (Err Claim) (Ok (r .0, whole x (r .1)))))
+      then (at-transaction 0 (make-all (s .room) h (x .id) true 0 (x .outputs) m)) (λ n. then (spending-all 1 xs n none) (λ r. cond (ltb (subsidy-at (s .halving) h + r .1 .fees) (worth (x .outputs))) (Err Claim) (Ok (r .0, whole x (r .1)))))

@@ -20,11 +20,12 @@ use undo::Record;
 use undo::Undo;
 use views::condition::SpendCondition;
 
-// At which height a block is applied, and how old a coinbase's coin has to be to be spent.
+// At which height a block is applied, how old a coinbase's coin has to be to be spent, and the halving interval.
 #[derive(Clone, Copy)]
 pub struct Site {
     pub height: u32,
     pub maturity: u32,
+    pub halving: u32,
 }
 
 // What a transaction or a block comes to: coins made and spent, the fees, and the value of the outputs that burn.
@@ -165,7 +166,7 @@ fn apply_spending<V: CoinsView, C: SpendCondition>(
     if paid < worth {
         return Err(TransactionFault::Under);
     }
-    let (made, burned) = make_outputs(view, chain, tx, site.height, false)?;
+    let (made, burned) = make_outputs(view, chain, tx, site, false)?;
     Ok(Sums {
         made,
         spent: tx.inputs.len() as u64,
@@ -220,9 +221,9 @@ pub fn apply_block<V: CoinsView, C: SpendCondition>(
         return Err(BlockFault::NoCoinbase);
     };
     let claimed = outputs_worth(first.outputs);
-    let (made, burned) = at_transaction(make_outputs(view, chain, &first, site.height, true), 0)?;
+    let (made, burned) = at_transaction(make_outputs(view, chain, &first, site, true), 0)?;
     let sums = apply_others(view, condition, chain, others, site)?;
-    let due = subsidy(interval, site.height) + sums.fees;
+    let due = subsidy(site.halving, site.height) + sums.fees;
     if claimed > due {
         return Err(BlockFault::Claim);
     }

@@ -10,6 +10,10 @@ use blockform::fault::FormFault;
 use coinsview::fault::ViewFault;
 use refusal::Reason;
 use refusal::Refusal;
+use blockform::fault::FormFaultDebug;
+use blockform::fault::FormFaultPartialEq;
+use coinsview::fault::ViewFaultDebug;
+use coinsview::fault::ViewFaultPartialEq;
 
 // Why an input is not spent, or an output not made.
 #[derive(Clone, Copy, PartialEq, Eq, Debug)]

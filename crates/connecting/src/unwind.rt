@@ -1,5 +1,5 @@
 // The way back from a block, by its undo entries.
-use coins::coin::CoinPartialEq;
+use coins::equal::CoinPartialEq;
 use coinsview::view::CoinsView;
 use undo::Record;
 use undo::Undo;

@@ -25,14 +25,14 @@ without-entry k es = remove outpoints k es
 abbrev pub clean : Coin → Entry
 clean c = record { coin = Some c; dirty = false; fresh = false }
 
--- a coin that is new, with none below
-abbrev pub made : Coin → Entry
-made c = record { coin = Some c; dirty = true; fresh = true }
+-- a new coin, with none below
+abbrev pub created : Coin → Entry
+created c = record { coin = Some c; dirty = true; fresh = true }
 
--- a coin in the place of another that stands below
-abbrev pub again : Coin → Entry
-again c = record { coin = Some c; dirty = true; fresh = false }
+-- a new coin in the place of one that stands below
+abbrev pub replaced : Coin → Entry
+replaced c = record { coin = Some c; dirty = true; fresh = false }
 
--- no coin, where one stands below
+-- no coin, in the place of one that stands below
 abbrev pub spent : Entry
 spent = record { coin = None; dirty = true; fresh = false }

@@ -17,7 +17,7 @@ ghost use Rattle.coins.specs.contracts.outpoint.Outpoint.{the-row as outpoint-r
 ghost use Rattle.maps.specs.Maps.{Sorted, next-of};
 ghost use Rattle.maps.specs.Keyed.{outpoints};
 ghost use Rattle.maps.specs.Search.{Found};
-ghost use Rattle.entries.specs.Entries.{with-entry, without-entry, again, spent};
+ghost use Rattle.entries.specs.Entries.{with-entry, without-entry, clean, created, replaced, spent};
 ghost use Rattle.entries.specs.contracts.table.Entry.{the-row as entry-row};
 ghost use Rattle.entries.specs.contracts.table.EntryTable.{the-row as table-row};
 use coins::coin::Coin;
@@ -36,6 +36,52 @@ pub struct Entry {
     pub coin: Option<Coin>,
     pub dirty: bool,
     pub fresh: bool,
+}
+
+impl Entry {
+    // A coin that stands below.
+    pub fn clean(coin: Coin) -> Entry
+        ensures { λ r. ⌜ r ≡ clean coin ⌝ }
+    {
+        Entry {
+            coin: Some(coin),
+            dirty: false,
+            fresh: false,
+        }
+    }
+
+    // A new coin, with none below.
+    pub fn created(coin: Coin) -> Entry
+        ensures { λ r. ⌜ r ≡ created coin ⌝ }
+    {
+        Entry {
+            coin: Some(coin),
+            dirty: true,
+            fresh: true,
+        }
+    }
+
+    // A new coin in the place of one that stands below.
+    pub fn replaced(coin: Coin) -> Entry
+        ensures { λ r. ⌜ r ≡ replaced coin ⌝ }
+    {
+        let created = Entry::created(coin);
+        Entry {
+            fresh: false,
+            ..created
+        }
+    }
+
+    // No coin, in the place of one that stands below.
+    pub fn spent() -> Entry
+        ensures { λ r. ⌜ r ≡ spent ⌝ }
+    {
+        Entry {
+            coin: None,
+            dirty: true,
+            fresh: false,
+        }
+    }
 }
 
 #[derive(Drop)]
@@ -105,15 +151,13 @@ impl EntryTable {
     }
 
     // The entry that was found at i gets a coin in the place of one that stands below.
-    pub fn put_again(&mut self, i: usize, at: &Outpoint, coin: Coin)
+    pub fn replace(&mut self, i: usize, at: &Outpoint, coin: Coin)
         requires { ⌜ Found outpoints (now at) (vec-items (now self .entries)) (Ok i) ⌝ }
-        ensures items { λ _. ⌜ vec-items (now (self .exit) .entries) ≡ with-entry (now (at .entry)) (again coin) (vec-items (now (self .entry) .entries)) ⌝ }
+        ensures items { λ _. ⌜ vec-items (now (self .exit) .entries) ≡ with-entry (now (at .entry)) (replaced coin) (vec-items (now (self .entry) .entries)) ⌝ }
         ensures held { λ _. ⌜ vec-cap (now (self .exit) .entries) ≡ vec-cap (now (self .entry) .entries) ⌝ }
     {
-        let (_, entry) = self.lend(i);
-        entry.coin = Some(coin);
-        entry.dirty = true;
-        entry.fresh = false;
+        let entry = Entry::replaced(coin);
+        self.lend(i).1 = entry;
     }
 
     // The entry that was found at i becomes spent.

@@ -11,7 +11,7 @@ use crate::terms::Terms;
 use blockform::reader::Block;
 use coins::coin::Coin;
 use coins::coin::Lock;
-use coins::coin::LockPartialEq;
+use coins::equal::LockPartialEq;
 use coins::outpoint::Outpoint;
 use coinsview::view::CoinsView;
 use connecting::apply::Site;

@@ -5,9 +5,9 @@ ghost use Prim.Native.Nat.{_+_, _≤_};
 ghost use lib.ListN.{length};
 ghost use Rattle.std.specs.Results.{isOk};
 ghost use Rattle.compact.specs.Compact.{four-at, eight-at};
-ghost use Rattle.blockform.specs.Form.{times, input as inputForm};
+ghost use Rattle.blockform.specs.Form.{times, input as inputForm, item as itemForm};
 ghost use Rattle.blockform.specs.Value.{spends, makes};
-ghost use Rattle.blockform.specs.Places.{id-at, input-at, input-end, output-at, end-of};
+ghost use Rattle.blockform.specs.Places.{id-at, input-at, input-end, output-at, item-at, item-end, end-of};
 ghost use Rattle.blockform.specs.Readers.{piece-of, offset-of};
 use crate::reader::Item;
 use coins::coin::Lock;
@@ -48,7 +48,7 @@ fn u64_at(b: &[u8], at: usize) -> u64
 }
 
 // The input at `at`, and where it ends.
-pub fn input(b: &[u8], at: usize) -> (Item<'_>, usize)
+fn input(b: &[u8], at: usize) -> (Item<'_>, usize)
     requires { ⌜ input-end (now b) at ≤ length (now b) ⌝ }
     ensures piece { λ r. ⌜ piece-of (r .0) ≡ spends (input-at (now (b .entry)) at) ⌝ }
     ensures offset { λ r. ⌜ offset-of (r .0) ≡ at ⌝ }
@@ -70,7 +70,7 @@ pub fn input(b: &[u8], at: usize) -> (Item<'_>, usize)
 }
 
 // The output at `at`, and where it ends.
-pub fn output(b: &[u8], at: usize) -> (Item<'_>, usize)
+fn output(b: &[u8], at: usize) -> (Item<'_>, usize)
     requires { ⌜ at + 17 ≤ length (now b) ⌝ }
     ensures piece { λ r. ⌜ piece-of (r .0) ≡ makes (output-at (now (b .entry)) at) ⌝ }
     ensures offset { λ r. ⌜ offset-of (r .0) ≡ at ⌝ }
@@ -89,6 +89,16 @@ pub fn output(b: &[u8], at: usize) -> (Item<'_>, usize)
         },
         at + 17,
     )
+}
+
+// The input or output at `at`, and where it ends.
+pub fn item(b: &[u8], at: usize, inputs: bool) -> (Item<'_>, usize)
+    requires { ⌜ isOk (itemForm inputs (now b) at) ≡ true ⌝ }
+    ensures piece { λ r. ⌜ piece-of (r .0) ≡ item-at inputs (now (b .entry)) at ⌝ }
+    ensures offset { λ r. ⌜ offset-of (r .0) ≡ at ⌝ }
+    ensures end { λ r. ⌜ r .1 ≡ item-end inputs (now (b .entry)) at ⌝ }
+{
+    if inputs { input(b, at) } else { output(b, at) }
 }
 
 // Where `n` inputs end that begin at `at`.

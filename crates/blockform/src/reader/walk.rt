@@ -11,8 +11,7 @@ use crate::reader::Items;
 use crate::reader::Transaction;
 use crate::reader::Transactions;
 use crate::reader::fields::id_at;
-use crate::reader::fields::input;
-use crate::reader::fields::output;
+use crate::reader::fields::item;
 use crate::reader::fields::past_inputs;
 
 impl<'a> Items<'a> {
@@ -34,18 +33,10 @@ impl<'a> Items<'a> {
         if self.left == 0 {
             return None;
         }
-        let (item, end) = if self.inputs {
-            input(self.block, self.place)
-        } else {
-            output(self.block, self.place)
-        };
-        *self = Items {
-            block: self.block,
-            place: end,
-            left: self.left - 1,
-            inputs: self.inputs,
-        };
-        Some(item)
+        let (next, end) = item(self.block, self.place, self.inputs);
+        self.place = end;
+        self.left -= 1;
+        Some(next)
     }
 }
 
@@ -84,11 +75,8 @@ impl<'a> Transactions<'a> {
             left: block[end] as usize,
             inputs: false,
         };
-        *self = Transactions {
-            block,
-            place: outputs.place + 17 * outputs.left,
-            left: self.left - 1,
-        };
+        self.place = outputs.place + 17 * outputs.left;
+        self.left -= 1;
         Some(Transaction {
             id,
             offset,

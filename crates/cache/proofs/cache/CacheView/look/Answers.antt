@@ -47,8 +47,9 @@ returns-then-len-lt-MOST-ENTRIES g c =
     let e = c .in-Some .ensures tt in
     let new = c .in-Err .ensures tt .2 in
     let less : length es < 64 = omega arith in
-    let says = says-is _ _ _ _ _ _ _ _ _ _ _ (look-clean _ _ _ _ _ (c .pre .1) rows k (c .in-Some .coin) new (sym (e .value)) less) (c .add .ensures .items) (c .add .ensures .held) refl (e .map) (e .fixed) in
-    record { well = (e .well, says .0); fixed = e .fixed; map = says .1; value = e .value ∙ sym (over-at _ _ _ _ _ (c .pre .1) rows k None new); entries = c .add .ensures .items ∙ look-entered k (c .in-Some .coin) es new less; below = e .map }
+    let items = c .add .ensures .items ∙ ap (λ x. with-entry k x es) (c .clean .ensures) in
+    let says = says-is _ _ _ _ _ _ _ _ _ _ _ (look-clean _ _ _ _ _ (c .pre .1) rows k (c .in-Some .coin) new (sym (e .value)) less) items (c .add .ensures .held) refl (e .map) (e .fixed) in
+    record { well = (e .well, says .0); fixed = e .fixed; map = says .1; value = e .value ∙ sym (over-at _ _ _ _ _ (c .pre .1) rows k None new); entries = items ∙ look-entered k (c .in-Some .coin) es new less; below = e .map }
 
 pub returns-else-len-lt-MOST-ENTRIES : need.returns-else-len-lt-MOST-ENTRIES
 returns-else-len-lt-MOST-ENTRIES g c =

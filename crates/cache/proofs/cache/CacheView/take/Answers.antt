@@ -12,7 +12,7 @@ use Rattle.maps.specs.Keyed.{outpoints}
 use Rattle.coinsview.specs.Meaning.{Coins, coin-at, without}
 use Rattle.entries.specs.declared.table.Entry.{Entry}
 use Rattle.entries.specs.Entries.{entry-at, with-entry, spent, clean}
-use Rattle.cache.specs.Rules.{over-below, take-entry}
+use Rattle.cache.specs.Rules.{over-below, with-room, take-entry}
 use Rattle.cache.specs.Kept.{Kept}
 use Rattle.cache.specs.Rules.{room-under, below-with-room}
 use Rattle.cache.proofs.Turns.{seen, over-at, kept-moved, says-is, take-spent, take-fresh, few-over, few-new, look-clean, look-kept, look-entered, look-passed, one-counted, take-flag, roomy, some-there}
@@ -116,5 +116,6 @@ returns-in-Some-look g c =
     let left = take-spent _ _ _ _ _ (r .kept) (r .rows) k (c .in-Some-look .coin) (ap (coin-at k) (r .over) ∙ coin) (λ n. some-below (r .same) (sym (e .value)) n) (few-new _ _ _ _ _ (r .kept) (r .rows) k spent (r .none) (r .less)) in
     let below : v .coins (c .enter .last .self .below) ≡ below-with-room es m = t .below ∙ ap (below-with-room es) (e .map) in
     let fixed = t .fixed ∙ e .fixed in
-    let says = says-is _ _ _ _ _ _ _ _ _ _ _ left (t .entries) (t .held) (ap (λ n. n - 1) (t .count)) below fixed in
-    record { well = (t .ok, says .0); fixed = fixed; map = says .1 ∙ ap (without k) (r .over); value = sym coin; entries = t .entries ∙ sym (ap (λ x. take-entry x k es) new); below = below ∙ sym (ap (λ x. room-under x es m) new) }
+    let items = t .entries ∙ ap (λ x. with-entry k x (with-room es)) (c .spent .ensures) in
+    let says = says-is _ _ _ _ _ _ _ _ _ _ _ left items (t .held) (ap (λ n. n - 1) (t .count)) below fixed in
+    record { well = (t .ok, says .0); fixed = fixed; map = says .1 ∙ ap (without k) (r .over); value = sym coin; entries = items ∙ sym (ap (λ x. take-entry x k es) new); below = below ∙ sym (ap (λ x. room-under x es m) new) }

@@ -13,6 +13,6 @@ returns-then-count-self g c =
     let m = v .coins (s .below) in
     let e = c .put .ensures in
     let room : length m < s .limit = omega (arith, c .count .ensures, c .if-count-self .taken) in
-    let value = e .value ∙ put-under (s .limit) (c .args .at) m (v .most (s .below)) room (c .pre .1 .within) in
+    let value = e .value ∙ put-under (s .limit) (c .args .at) m (v .most (s .below)) room (c .pre .within) in
     let few : length (v .coins (c .put .last .self)) ≤ s .limit = subst (λ x. length x ≤ s .limit) (sym (e .map ∙ ap (λ r. put-map r (c .args .at) (c .args .coin) m) value)) (put-few (s .limit) (c .args .at) m (c .args .coin) room) in
-    record { well = (e .well, record { within = omega (arith, e .fixed, c .pre .1 .within); few = few }); fixed = refl; map = e .map; value = value }
+    record { well = record { below = e .well; within = omega (arith, e .fixed, c .pre .within); few = few }; fixed = refl; map = e .map; value = value }

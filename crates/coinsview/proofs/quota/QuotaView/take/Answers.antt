@@ -11,5 +11,5 @@ returns g c =
     let s = c .args .self .now in
     let v = g .V·CoinsView in
     let e = c .take .ensures in
-    let few : length (v .coins (c .take .last .self)) ≤ s .limit = omega (arith, ap length (e .map), length-without outpoints (c .args .at .now) (v .coins (s .below)), c .pre .1 .few) in
-    record { well = (e .well, record { within = omega (arith, e .fixed, c .pre .1 .within); few = few }); fixed = refl; map = e .map; value = e .value }
+    let few : length (v .coins (c .take .last .self)) ≤ s .limit = omega (arith, ap length (e .map), length-without outpoints (c .args .at .now) (v .coins (s .below)), c .pre .few) in
+    record { well = record { below = e .well; within = omega (arith, e .fixed, c .pre .within); few = few }; fixed = refl; map = e .map; value = e .value }

@@ -1,6 +1,0 @@
-use mathlib.Core.Path.{_≡_, refl}
-use Rattle.entries.proofs.Places.{set-at}
-use Rattle.entries.proofs.table.EntryTable.put_again.Needs as need
-
-pub returns : need.returns
-returns c = record { items = set-at _ _ _ _ (c .lend .result .now) (c .pre) (c .lend .ensures .value); held = refl }
