@@ -64,7 +64,11 @@ abbrev pub texts : List Line → List ℕ
 texts [] = []
 texts (x ∷ xs) = line-text x ++ texts xs
 
--- one printed line for each line of the script, or the refusal of a file that is too long, which asks no ledger
-pub record Printed {L : Type 0} (file script : List ℕ) (a z : L) (text : List ℕ) : Type 0 where
-  pub long : 65536 < length file → (text ≡ line-text (Refused (record { reason = reason.FileOverSize; first = 0; second = 0 }))) × (z ≡ a)
+-- one printed line for each line of the script, or the refusal of a file that is too long
+pub record Printed-text (file script text : List ℕ) : Type 0 where
+  pub long : 65536 < length file → text ≡ line-text (Refused (record { reason = reason.FileOverSize; first = 0; second = 0 }))
   pub lines : length file ≤ 65536 → (xs : List Line) × (text ≡ texts xs) × (length xs ≡ length (lines-of script))
+
+-- a file that is too long leaves the ledger as it was
+abbrev pub Printed : {L : Type 0} → List ℕ → List ℕ → L → L → List ℕ → Type 0
+Printed file script a z text = Printed-text file script text × (65536 < length file → z ≡ a)

@@ -8,6 +8,7 @@ ghost use Rattle.std.specs.Vec.{made};
 ghost use Rattle.printout.specs.declared.Line.{Line};
 ghost use Rattle.replay.specs.Turns.{Printed};
 use crate::session::Session;
+use blockform::file::FileReader;
 use coinsview::view::CoinsView;
 use ledger::Ledger;
 use printout::Line;
@@ -17,10 +18,10 @@ use std::alloc::Global;
 use views::condition::SpendCondition;
 
 // The answers to all lines of the script, an LF after each. A block file that is too long answers alone.
-pub fn printout_of<V: CoinsView, C: SpendCondition>(
+pub fn printout_of<'a, V: CoinsView, C: SpendCondition>(
     heap: Global,
-    blocks: &[u8],
-    script: &[u8],
+    blocks: &'a [u8],
+    script: &'a [u8],
     ledger: &mut Ledger<V, C>,
 ) -> Result<String, AllocError>
     requires { ⌜ V·CoinsView .ok (now ledger .view) ⌝ }
@@ -28,13 +29,14 @@ pub fn printout_of<V: CoinsView, C: SpendCondition>(
     ensures text { λ r. ⌜ made r (λ t. Printed (now (blocks .entry)) (now (script .entry)) (now (ledger .entry)) (now (ledger .exit)) (string-bytes t)) ⌝ }
 {
     let mut text = String::new(heap);
-    let mut session = match Session::new(blocks, script) {
-        Ok(session) => session,
+    let file = match FileReader::new(blocks) {
+        Ok(file) => file,
         Err(fault) => {
             append(&mut text, Line::Refused(fault.refusal()))?;
             return Ok(text);
         }
     };
+    let mut session = Session::new(file, script);
     while let Some(line) = session.next_line(ledger) {
         append(&mut text, line)?;
     }

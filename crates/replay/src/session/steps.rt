@@ -1,17 +1,14 @@
 // The steps of a run.
 ghost use mathlib.Core.Path.{_≡_};
 ghost use mathlib.Core.List.{List, [], _∷_};
-ghost use Prim.Native.Nat.{ℕ, _+_, _≤_, _<_};
+ghost use Prim.Native.Nat.{ℕ, _+_, _<_};
 ghost use lib.ListN.{length};
-ghost use Rattle.std.specs.Options.{Cases as BySome};
-ghost use Rattle.std.specs.Results.{Cases};
+ghost use Rattle.std.specs.Options.{Cases};
 ghost use Rattle.std.specs.declared.option.Option.{Option};
-ghost use Rattle.blockform.specs.declared.fault.FileFault.the-variants.{OverSize};
 ghost use Rattle.script.specs.Cuts.{lines-of};
 ghost use Rattle.replay.specs.Turns.{Turn, parsed};
 use crate::answer::answer_line;
 use crate::session::Session;
-use blockform::fault::FileFault;
 use blockform::file::FileReader;
 use coinsview::view::CoinsView;
 use ledger::Ledger;
@@ -20,16 +17,16 @@ use script::lines::cut;
 use views::condition::SpendCondition;
 
 impl<'a> Session<'a> {
-    // A run that begins at the first record and the first line.
-    pub fn new(blocks: &'a [u8], script: &'a [u8]) -> Result<Session<'a>, FileFault>
-        ensures { λ r. ⌜ Cases r (λ s. (length (now (blocks .entry)) ≤ 65536) × (now (s .file .file) ≡ now (blocks .entry)) × (s .file .place ≡ 0) × (now (s .rest) ≡ now (script .entry)) × (s .number ≡ 0)) (λ e. (65536 < length (now (blocks .entry))) × (e ≡ OverSize)) ⌝ }
+    // A run from the first line of the script on.
+    pub fn new(file: FileReader<'a>, script: &'a [u8]) -> Session<'a>
+        ensures file { λ r. ⌜ (now (r .file .file) ≡ now (file .entry .file)) × (r .file .place ≡ file .entry .place) ⌝ }
+        ensures script { λ r. ⌜ (now (r .rest) ≡ now (script .entry)) × (r .number ≡ 0) ⌝ }
     {
-        let file = FileReader::new(blocks)?;
-        Ok(Session {
+        Session {
             file,
             rest: script,
             number: 0,
-        })
+        }
     }
 
     // Performs the next line of the script and answers its line of the printout. None at the script's end.
@@ -40,8 +37,8 @@ impl<'a> Session<'a> {
         requires { ⌜ V·CoinsView .ok (now ledger .view) ⌝ }
         ensures ok { λ _. ⌜ V·CoinsView .ok (now (ledger .exit) .view) ⌝ }
         ensures file { λ _. ⌜ now (now (self .exit) .file .file) ≡ now (now (self .entry) .file .file) ⌝ }
-        ensures turn { λ r. ⌜ BySome r ((lines-of (now (now (self .entry) .rest)) ≡ []) × (now (self .exit) ≡ now (self .entry)) × (now (ledger .exit) ≡ now (ledger .entry))) (λ x. (l : Option (List ℕ)) × (lines-of (now (now (self .entry) .rest)) ≡ l ∷ lines-of (now (now (self .exit) .rest))) × (now (self .exit) .number ≡ now (self .entry) .number + 1) × Turn (now (now (self .entry) .file .file)) (now (self .exit) .number) (now (self .entry) .file .place) (now (self .exit) .file .place) (now (ledger .entry)) (now (ledger .exit)) x (parsed l)) ⌝ }
-        ensures falls { λ r. ⌜ BySome r (Unit {0}) (λ _. length (now (now (self .exit) .rest)) < length (now (now (self .entry) .rest))) ⌝ }
+        ensures turn { λ r. ⌜ Cases r ((lines-of (now (now (self .entry) .rest)) ≡ []) × (now (self .exit) ≡ now (self .entry)) × (now (ledger .exit) ≡ now (ledger .entry))) (λ x. (l : Option (List ℕ)) × (lines-of (now (now (self .entry) .rest)) ≡ l ∷ lines-of (now (now (self .exit) .rest))) × (now (self .exit) .number ≡ now (self .entry) .number + 1) × Turn (now (now (self .entry) .file .file)) (now (self .exit) .number) (now (self .entry) .file .place) (now (self .exit) .file .place) (now (ledger .entry)) (now (ledger .exit)) x (parsed l)) ⌝ }
+        ensures falls { λ r. ⌜ Cases r (Unit {0}) (λ _. length (now (now (self .exit) .rest)) < length (now (now (self .entry) .rest))) ⌝ }
     {
         let (line, rest) = cut(self.rest)?;
         let number = self.number + 1;
