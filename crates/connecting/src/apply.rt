@@ -1,4 +1,5 @@
 // The effect of a block on the coins, with an undo entry for each coin taken and each coin put.
+ghost use Rattle.blockform.specs.Readers.{Items-good, Transactions-good, Block-good};
 use crate::fault::BlockFault;
 use crate::fault::InputFault;
 use crate::fault::InputFromView;
@@ -69,7 +70,7 @@ fn spend_inputs<V: CoinsView, C: SpendCondition>(
     mut inputs: Items<'_>,
     site: Site,
 ) -> Result<u64, TransactionFault>
-    requires { ⌜ V·CoinsView .ok (now view) ⌝ }
+    requires { ⌜ V·CoinsView .ok (now view) × Items-good inputs ⌝ }
     ensures { λ _. ⌜ V·CoinsView .ok (now (view .exit)) ⌝ }
 {
     let mut paid = 0;
@@ -86,17 +87,19 @@ fn spend_inputs<V: CoinsView, C: SpendCondition>(
         let coin = at_item(spend(view, condition, &at, witness, site), item)?;
         // The room was tested before the first coin was touched.
         let _ = chain.push(Record::Spent(at, coin));
-        paid += coin.value;
+        paid = coin.value.saturating_add(paid);
         item += 1;
     }
     Ok(paid)
 }
 
 // What a transaction's outputs are worth.
-fn outputs_worth(mut outputs: Items<'_>) -> u64 {
+fn outputs_worth(mut outputs: Items<'_>) -> u64
+    requires { ⌜ Items-good outputs ⌝ }
+{
     let mut sum = 0;
     while let Some(Item::Output { value, .. }) = outputs.next() {
-        sum += value;
+        sum = value.saturating_add(sum);
     }
     sum
 }
@@ -118,7 +121,7 @@ fn make_outputs<V: CoinsView>(
     site: Site,
     coinbase: bool,
 ) -> Result<(u64, u64), TransactionFault>
-    requires { ⌜ V·CoinsView .ok (now view) ⌝ }
+    requires { ⌜ V·CoinsView .ok (now view) × Items-good (now tx .outputs) ⌝ }
     ensures { λ _. ⌜ V·CoinsView .ok (now (view .exit)) ⌝ }
 {
     let mut outputs = tx.outputs;
@@ -127,7 +130,7 @@ fn make_outputs<V: CoinsView>(
     let mut index = 0;
     while let Some(Item::Output { value, lock, .. }) = outputs.next() {
         if lock.kind == 0 {
-            burned += value;
+            burned = value.saturating_add(burned);
         } else {
             if value > MAX_VALUE {
                 return Err(TransactionFault::Money {
@@ -143,7 +146,7 @@ fn make_outputs<V: CoinsView>(
             };
             at_item(make(view, at, coin), index as usize)?;
             let _ = chain.push(Record::Made(at, coin));
-            made += 1;
+            made = 1u64.saturating_add(made);
         }
         index += 1;
     }
@@ -158,7 +161,7 @@ fn apply_spending<V: CoinsView, C: SpendCondition>(
     tx: &Transaction<'_>,
     site: Site,
 ) -> Result<Sums, TransactionFault>
-    requires { ⌜ V·CoinsView .ok (now view) ⌝ }
+    requires { ⌜ V·CoinsView .ok (now view) × (Items-good (now tx .inputs) × Items-good (now tx .outputs)) ⌝ }
     ensures { λ _. ⌜ V·CoinsView .ok (now (view .exit)) ⌝ }
 {
     let paid = spend_inputs(view, condition, chain, tx.inputs, site)?;
@@ -183,7 +186,7 @@ fn apply_others<V: CoinsView, C: SpendCondition>(
     mut others: Transactions<'_>,
     site: Site,
 ) -> Result<Sums, BlockFault>
-    requires { ⌜ V·CoinsView .ok (now view) ⌝ }
+    requires { ⌜ V·CoinsView .ok (now view) × Transactions-good others ⌝ }
     ensures { λ _. ⌜ V·CoinsView .ok (now (view .exit)) ⌝ }
 {
     let mut sums = Sums {
@@ -195,10 +198,10 @@ fn apply_others<V: CoinsView, C: SpendCondition>(
     let mut t = 1;
     while let Some(tx) = others.next() {
         let one = at_transaction(apply_spending(view, condition, chain, &tx, site), t)?;
-        sums.made += one.made;
-        sums.spent += one.spent;
-        sums.fees += one.fees;
-        sums.burned += one.burned;
+        sums.made = sums.made.saturating_add(one.made);
+        sums.spent = sums.spent.saturating_add(one.spent);
+        sums.fees = sums.fees.saturating_add(one.fees);
+        sums.burned = sums.burned.saturating_add(one.burned);
         t += 1;
     }
     Ok(sums)
@@ -212,7 +215,7 @@ pub fn apply_block<V: CoinsView, C: SpendCondition>(
     block: &Block<'_>,
     site: Site,
 ) -> Result<Sums, BlockFault>
-    requires { ⌜ V·CoinsView .ok (now view) ⌝ }
+    requires { ⌜ V·CoinsView .ok (now view) × Block-good (now block) ⌝ }
     ensures { λ _. ⌜ V·CoinsView .ok (now (view .exit)) ⌝ }
 {
     let mut others = block.transactions();
@@ -222,14 +225,14 @@ pub fn apply_block<V: CoinsView, C: SpendCondition>(
     let claimed = outputs_worth(first.outputs);
     let (made, burned) = at_transaction(make_outputs(view, chain, &first, site, true), 0)?;
     let sums = apply_others(view, condition, chain, others, site)?;
-    let due = subsidy(site.halving, site.height) + sums.fees;
+    let due = subsidy(site.halving, site.height).saturating_add(sums.fees);
     if claimed > due {
         return Err(BlockFault::Claim);
     }
     Ok(Sums {
-        made: made + sums.made,
+        made: made.saturating_add(sums.made),
         spent: sums.spent,
         fees: sums.fees,
-        burned: due - claimed + burned + sums.burned,
+        burned: (due - claimed).saturating_add(burned).saturating_add(sums.burned),
     })
 }
