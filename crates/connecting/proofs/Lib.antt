@@ -1,4 +1,5 @@
 pub mod Conserved
 pub mod Halvings
+pub mod Steps
 pub mod Tests
 pub mod Undone
