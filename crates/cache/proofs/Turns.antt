@@ -1,12 +1,12 @@
 -- What each call makes of a cache that is in order.
 use mathlib.Core.Path.{_≡_, refl, sym, ap, subst, _∙_}
 use mathlib.Core.Bool.{Bool, true, false, cond}
-use mathlib.Core.List.{List, [], _∷_}
+use mathlib.Core.List.{[]}
 use Prim.Native.Nat.{ℕ, _+_, _-_, _≤_, _<_}
 use native.Mathlib.Omega.{arith}
 use lib.Dec.{ltb}
 use lib.ListN.{length, getD}
-use borrow.Author.Tests.{ltb-true, ltb-false, lt-ltb}
+use borrow.Author.Tests.{ltb-true, lt-ltb}
 use Rattle.std.proofs.shelf.Ways.{tells}
 use Rattle.std.specs.declared.option.Option.{Option}
 use Rattle.std.specs.declared.option.Option.the-variants.{None, Some}
@@ -20,7 +20,7 @@ use Rattle.maps.specs.Keyed.{outpoints}
 use Rattle.coinsview.specs.Meaning.{Coins, coin-at, with-coin, without}
 use Rattle.entries.specs.declared.table.Entry.{Entry}
 use Rattle.entries.specs.Entries.{clean, created, replaced, spent, Entries, entry-at, with-entry, without-entry}
-use Rattle.cache.specs.Rules.{look-entry, look-entries, take-entry, take-entries, with-room, below-with-room, marks, over-below, taken-below, put-below, spilled-below}
+use Rattle.cache.specs.Rules.{look-entry, look-entries, take-entry, take-entries, with-room, below-with-room, marks, over-below, taken-below, spilled-below}
 use Rattle.cache.specs.Kept.{Kept}
 
 module _ (es : Entries) (room n : ℕ) (m : Coins) (most : ℕ) (h : Kept es room n m most) (s : Sorted outpoints m) where
@@ -170,10 +170,6 @@ module _ (es : Entries) (room n : ℕ) (m : Coins) (most : ℕ) (h : Kept es roo
 -- the entry that a search found, as it was read
 pub seen : (k : Outpoint) (es : Entries) (i : ℕ) (z : Outpoint × Entry) → ((d : Outpoint × Entry) → entry-at k es ≡ Some (getD es i d .1)) → z ≡ getD es i z → entry-at k es ≡ Some (z .1)
 seen k es i z f r = f z ∙ ap (λ x. Some (x .1)) (sym r)
-
--- so there is one
-pub some-there : (k : Outpoint) (es : Entries) (e : Entry) → entry-at k es ≡ Some e → entry-at k es ≡ None → ⊥
-some-there k es e f n = let q : _≡_ {A = ℕ} 0 1 = cc in omega arith
 
 -- what look leaves of the entries
 pub look-kept : (k : Outpoint) (e : Entry) (es : Entries) (x : Option Coin) → entry-at k es ≡ Some e → es ≡ look-entries x k es

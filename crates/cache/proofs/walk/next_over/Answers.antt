@@ -1,9 +1,4 @@
-use mathlib.Core.Path.{_≡_, refl, sym, ap, _∙_}
-use native.Mathlib.Omega.{arith}
-use Prim.Native.Nat.{_<_, _≤_}
-use lib.ListN.{length}
-use Rattle.maps.specs.Maps.{next-of}
-use Rattle.maps.specs.Keyed.{outpoints}
+use mathlib.Core.Path.{sym, _∙_}
 use Rattle.cache.proofs.Nexts.{asked, next-past, found-before, found-entry, found-spent, next-first}
 use Rattle.cache.proofs.walk.next_over.Needs as need
 
