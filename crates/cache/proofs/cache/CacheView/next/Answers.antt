@@ -16,7 +16,7 @@ next-over-requires g c κs =
     let same = c .as-slice .ensures .value in
     record {
       ok = c .pre .0;
-      climb = subst (Sorted outpoints) (sym same) (c .pre .1 .climb);
+      sorted = subst (Sorted outpoints) (sym same) (c .pre .1 .sorted);
       within = omega (arith, c .above-start .ensures .within, ap length same);
       first = ap (λ x. next-of outpoints x (c .as-slice .result .now)) (c .copied .ensures) ∙ ap (λ x. next-of outpoints (mapped now (c .args .from)) x) same ∙ c .above-start .ensures .first ∙ ap (λ x. nth x (c .above-start .result)) (sym same);
     }
