@@ -21,6 +21,7 @@ pub use coins::outpoint::OutpointPartialOrd;
 pub use coinsview::fault::ViewFault;
 pub use coinsview::fault::ViewFaultEq;
 pub use coinsview::fault::ViewFaultPartialEq;
+pub use coinsview::laws::map_laws;
 pub use coinsview::quota::Quota;
 pub use coinsview::quota::QuotaView;
 pub use coinsview::table::FlatTable;
