@@ -20,7 +20,7 @@ use Rattle.compact.proofs.Laws.{written-is-read, small-is-a-byte, nothing-is-cu
 use Rattle.blockform.specs.declared.fault.FormFault.{FormFault}
 use Rattle.blockform.specs.declared.fault.FormFault.the-variants.{Cut, OverCount, Tail}
 use Rattle.blockform.specs.Form.{then, times, field, at-most, count, counted, input, output, item, transaction, ended, block}
-use Rattle.blockform.specs.Places.{input-end, output-end, item-end, inputs-end, transaction-end, list-at, end-of}
+use Rattle.blockform.specs.Places.{counted-end, input-end, output-end, item-end, inputs-end, transaction-end, list-at, end-of}
 
 -- with steps to go, the next one comes first
 pub next : (step : ℕ → Result ℕ FormFault) (n i at : ℕ) → i < n → times (n - i) step at ≡ then (step at) (λ j. times (n - (i + 1)) step j)
@@ -51,7 +51,7 @@ pub field-yes : (k : ℕ) (b : List ℕ) (at : ℕ) → at + k ≤ length b → 
 field-yes k b at h = grind (arith, tells)
 
 -- where a test has a fault in its way and none came
-chosen : {X : Type 0} (c : Bool) (e : FormFault) (x y : X) → cond c (Err e) (Ok x) ≡ Ok y → (c ≡ false) × (x ≡ y)
+pub chosen : {X : Type 0} (c : Bool) (e : FormFault) (x y : X) → cond c (Err e) (Ok x) ≡ Ok y → (c ≡ false) × (x ≡ y)
 chosen true e x y h = let z : _≡_ {A = ℕ} 0 1 = cc in absurd (omega arith)
 chosen false e x y h = (refl, cc)
 
@@ -218,7 +218,7 @@ pub record ListOk (step : ℕ → Result ℕ FormFault) (end : ℕ → ℕ) (b :
   pub inside : at < length b
   pub few : getD b at 0 ≤ 64
   pub steps : times (getD b at 0) step (at + 1) ≡ Ok e
-  pub is : e ≡ end-of (getD b at 0) end (at + 1)
+  pub is : e ≡ counted-end end b at
 
 pub counted-ok : (step : ℕ → Result ℕ FormFault) (end : ℕ → ℕ) → Ends step end → (b : List ℕ) (at e : ℕ) → counted step b at ≡ Ok e → ListOk step end b at e
 counted-ok step end d b at e h =
@@ -242,8 +242,7 @@ transaction-ok b at e h =
     let q = then-ok (counted (input b) b (p .0)) (λ j. counted (output b) b j) e (p .2) in
     let f = field-ok 32 b at (p .0) (p .1) in
     let i = list-moved (input b) (input-end b) b (p .0) (at + 32) (q .0) (f .0) (counted-ok (input b) (input-end b) (input-ends b) b (p .0) (q .0) (q .1)) in
-    let at33 : at + 32 + 1 ≡ at + 33 = omega arith in
-    let m : q .0 ≡ inputs-end b at = i .is ∙ ap (λ k. end-of (getD b (at + 32) 0) (input-end b) k) at33 in
+    let m : q .0 ≡ inputs-end b at = i .is in
     let P : ℕ → Type 0 = λ k. ListOk (input b) (input-end b) b (at + 32) k in
     let o = counted-ok (output b) output-end (output-ends b) b (q .0) e (q .2) in
     record { head = f .1; ins = subst P m i; outs = list-moved (output b) output-end b (q .0) (inputs-end b at) e m o }
@@ -285,7 +284,7 @@ outputs-inside b (suc n) at e l h =
 pub record Found (b : List ℕ) (n at : ℕ) : Type 0 where
   pub id : at + 32 < length b
   pub few-in : getD b (at + 32) 0 ≤ 64
-  pub ins : isOk (times (getD b (at + 32) 0) (input b) (at + 33)) ≡ true
+  pub ins : isOk (times (getD b (at + 32) 0) (input b) (at + 32 + 1)) ≡ true
   pub mid : inputs-end b at < length b
   pub few-out : getD b (inputs-end b at) 0 ≤ 64
   pub outs : isOk (times (getD b (inputs-end b at) 0) (output b) (inputs-end b at + 1)) ≡ true
@@ -297,14 +296,13 @@ pub found : (b : List ℕ) (n at : ℕ) → 0 < n → isOk (times n (transaction
 found b n at l h =
     let f = times-first (transaction b) (transaction-end b) (transaction-ends b) n at l h in
     let t = transaction-ok b at (transaction-end b at) (f .0) in
-    let at33 : at + 32 + 1 ≡ at + 33 = omega arith in
     let m = getD b (inputs-end b at) 0 in
     let e = outputs-end m (inputs-end b at + 1) in
     let i = outputs-inside b m (inputs-end b at + 1) (transaction-end b at) (omega (arith, t .outs .inside)) (t .outs .steps) in
     record {
       id = t .ins .inside;
       few-in = t .ins .few;
-      ins = ap (λ k. isOk (times (getD b (at + 32) 0) (input b) k)) (sym at33) ∙ is-ok _ _ (t .ins .steps);
+      ins = is-ok _ _ (t .ins .steps);
       mid = t .outs .inside;
       few-out = t .outs .few;
       outs = is-ok _ _ (t .outs .steps);

@@ -4,3 +4,4 @@ pub mod Places
 pub mod Readers
 pub mod Faults
 pub mod File
+pub mod Laws

@@ -12,7 +12,7 @@ use Rattle.blockform.specs.declared.fault.FormFault.the-variants.{OverSize}
 use Rattle.blockform.specs.Form.{then, block}
 use Rattle.blockform.specs.Value.{InputValue, OutputValue, TransactionValue, BlockValue, Piece, spends, makes}
 
--- what stands at a place and at the n - 1 places after it, and where that ends
+-- the n values that stand from a place on, one after another, and where they end
 abbrev pub list-at : {X : Type 0} → ℕ → (ℕ → X) → (ℕ → ℕ) → ℕ → List X
 list-at zero value end at = []
 list-at (suc n) value end at = value at ∷ list-at n value end (end at)
@@ -44,18 +44,25 @@ abbrev pub item-end : Bool → List ℕ → ℕ → ℕ
 item-end true b = input-end b
 item-end false b = output-end
 
--- where a transaction's inputs end, and its outputs
+-- a count at a place, what that many values after it are, and where they end
+abbrev pub counted-at : {X : Type 0} → (ℕ → X) → (ℕ → ℕ) → List ℕ → ℕ → List X
+counted-at value end b at = list-at (getD b at 0) value end (at + 1)
+
+abbrev pub counted-end : (ℕ → ℕ) → List ℕ → ℕ → ℕ
+counted-end end b at = end-of (getD b at 0) end (at + 1)
+
+-- where a transaction's inputs end
 abbrev pub inputs-end : List ℕ → ℕ → ℕ
-inputs-end b at = end-of (getD b (at + 32) 0) (input-end b) (at + 33)
+inputs-end b at = counted-end (input-end b) b (at + 32)
 
 abbrev pub transaction-at : List ℕ → ℕ → TransactionValue
-transaction-at b at = record { id = id-at b at; inputs = list-at (getD b (at + 32) 0) (input-at b) (input-end b) (at + 33); outputs = list-at (getD b (inputs-end b at) 0) (output-at b) output-end (inputs-end b at + 1) }
+transaction-at b at = record { id = id-at b at; inputs = counted-at (input-at b) (input-end b) b (at + 32); outputs = counted-at (output-at b) output-end b (inputs-end b at) }
 
 abbrev pub transaction-end : List ℕ → ℕ → ℕ
-transaction-end b at = end-of (getD b (inputs-end b at) 0) output-end (inputs-end b at + 1)
+transaction-end b at = counted-end output-end b (inputs-end b at)
 
 abbrev pub block-at : List ℕ → BlockValue
-block-at b = record { id = id-at b 0; previous = id-at b 32; transactions = list-at (getD b 64 0) (transaction-at b) (transaction-end b) 65 }
+block-at b = record { id = id-at b 0; previous = id-at b 32; transactions = counted-at (transaction-at b) (transaction-end b) b 64 }
 
 -- the block that bytes write, or the first fault: the size, and then the form from the front
 unfoldable pub read-block : List ℕ → Result BlockValue FormFault

@@ -23,7 +23,6 @@ use coinsview::fault::ViewFault;
 use coinsview::view::CoinsView;
 use entries::table::Entry;
 use entries::table::EntryTable;
-use entries::table::MOST_ENTRIES;
 use std::alloc::AllocError;
 use std::alloc::Global;
 
@@ -79,11 +78,11 @@ impl<V: CoinsView> Cache<V> {
         ensures fixed { λ _. ⌜ room-of V·CoinsView (now (self .exit)) ≡ room-of V·CoinsView (now (self .entry)) ⌝ }
         ensures count { λ _. ⌜ now (self .exit) .count ≡ now (self .entry) .count ⌝ }
     {
-        if self.table.entries.len() == MOST_ENTRIES {
-            self.spill();
-            self.table.add(0, at, entry);
-        } else {
+        if self.table.has_room() {
             self.table.add(i, at, entry);
+        } else {
+            self.spill(); // no entry is left
+            self.table.add(0, at, entry);
         }
     }
 }
@@ -129,7 +128,7 @@ pub impl<V: CoinsView> CoinsView for Cache<V> as CacheView {
                 let Some(coin) = self.below.look(at) else {
                     return None;
                 };
-                if self.table.entries.len() < MOST_ENTRIES {
+                if self.table.has_room() {
                     self.table.add(i, *at, Entry::clean(coin));
                 }
                 Some(coin)
@@ -236,7 +235,7 @@ pub impl<V: CoinsView> CoinsView for Cache<V> as CacheView {
         ensures entries { λ _. ⌜ entries-of (now (self .exit)) ≡ [] ⌝ }
         ensures below { λ _. ⌜ below-of V·CoinsView (now (self .exit)) ≡ spilled-below (entries-of (now (self .entry))) (below-of V·CoinsView (now (self .entry))) ⌝ }
     {
-        self.spill();
+        self.spill(); // the view below has the map
         self.below.flush();
     }
 }

@@ -57,7 +57,7 @@ pub impl<V: CoinsView> CoinsView for Quota<V> as QuotaView {
     }
 
     fn put(&mut self, at: Outpoint, coin: Coin) -> Result<(), ViewFault> {
-        if self.below.count() < self.limit {
+        if self.count() < self.capacity() {
             return self.below.put(at, coin);
         }
         match self.below.look(&at) {

@@ -103,7 +103,7 @@ pub impl CoinsView for FlatTable<'_> as FlatTableView {
     }
 
     fn count(&self) -> usize {
-        self.used
+        self.used // one coin a cell
     }
 
     fn look(&mut self, at: &Outpoint) -> Option<Coin> {
@@ -130,7 +130,7 @@ pub impl CoinsView for FlatTable<'_> as FlatTableView {
         match self.find(&at) {
             Ok(_) => Err(ViewFault::Exists),
             Err(i) => {
-                if used >= self.cells.len() {
+                if used == self.capacity() {
                     return Err(ViewFault::Full);
                 }
                 insert_at(self.cells, used, i, (at, coin));
@@ -142,15 +142,13 @@ pub impl CoinsView for FlatTable<'_> as FlatTableView {
 
     fn take(&mut self, at: &Outpoint) -> Option<Coin> {
         let used = self.used;
-        match self.find(at) {
-            Ok(i) => {
-                let coin = self.cells[i].1;
-                remove_at(self.cells, used, i);
-                self.used = used - 1;
-                Some(coin)
-            }
-            Err(_) => None,
-        }
+        let Ok(i) = self.find(at) else {
+            return None;
+        };
+        let coin = self.cells[i].1;
+        remove_at(self.cells, used, i);
+        self.used = used - 1;
+        Some(coin)
     }
 
     fn flush(&mut self) {}

@@ -1,31 +1,103 @@
--- A list as its first bytes and the rest, and the forms of a number by its size.
+-- Numbers as bytes, least first, over any width; a list as its first bytes and the rest.
 use mathlib.Core.Path.{_≡_, refl, sym, ap, _∙_}
 use mathlib.Core.List.{List, [], _∷_, _++_}
-use Prim.Native.Nat.{ℕ, zero, suc, _+_, _-_, _*_, _/_, _%_, _≤_, _<_}
-use native.Mathlib.Nat.{zero-add, add-zero}
+use Prim.Native.Nat.{ℕ, zero, suc, _+_, _-_, _*_, _/_, _%_, _≤_, _<_, _^_}
+use native.Mathlib.Nat.{zero-add, add-zero, pow-suc}
 use native.Mathlib.Omega.{arith}
+use lib.Dec.{lit<}
 use lib.ListN.{length, getD, take, drop, length-drop}
 use lib.Seq.{drop-cons, take-all}
 use borrow.Author.Tests.{lt-ltb, le-ltb}
-use Rattle.compact.specs.Compact.{le, encode, Bytes}
+use Rattle.compact.specs.Compact.{le, encode, two-at, four-at, eight-at, Bytes}
+
+-- the number that bytes write, least first
+abbrev pub unle : List ℕ → ℕ
+unle [] = 0
+unle (b ∷ bs) = b + unle bs * 256
 
 -- the k bytes of s from i on
 abbrev pub from : ℕ → ℕ → List ℕ → List ℕ
 from zero i s = []
-from (suc k) i s = getD s i 0 ∷ from k (suc i) s
+from (suc k) i s = getD s i 0 ∷ from k (i + 1) s
 
-pub split : (k i : ℕ) (s : List ℕ) → k + i ≤ length s → drop i s ≡ from k i s ++ drop (k + i) s
-split zero i s h = rw zero-add
+pub split : (k i : ℕ) (s : List ℕ) → i + k ≤ length s → drop i s ≡ from k i s ++ drop (i + k) s
+split zero i s h = rw add-zero
 split (suc k) i s h =
     let lt : i < length s = omega arith in
-    let same : k + suc i ≡ suc k + i = omega arith in
-    drop-cons s i 0 lt ∙ ap (λ t. getD s i 0 ∷ t) (split k (suc i) s (omega arith) ∙ ap (λ n. from k (suc i) s ++ drop n s) same)
+    let one : suc i ≡ i + 1 = omega arith in
+    let same : i + 1 + k ≡ i + suc k = omega arith in
+    drop-cons s i 0 lt
+    ∙ ap (λ j. getD s i 0 ∷ drop j s) one
+    ∙ ap (λ t. getD s i 0 ∷ t) (split k (i + 1) s (omega arith) ∙ ap (λ n. from k (i + 1) s ++ drop n s) same)
 
 pub whole : (k : ℕ) (s : List ℕ) → k ≤ length s → s ≡ from k 0 s ++ drop k s
 whole k s h =
-    let z : k + 0 ≡ k = add-zero k in
+    let z : 0 + k ≡ k = zero-add k in
     split k 0 s (omega arith) ∙ ap (λ n. from k 0 s ++ drop n s) z
 
+-- what a pattern `[.., rest @ ..]` with k names before the rest calls the rest
+pub rest-is : (k : ℕ) (s : List ℕ) → take (length s - k) (drop k s) ≡ drop k s
+rest-is k s = take-all (length s - k) (drop k s) (simp length-drop (omega arith))
+
+-- the first byte of a number, and the others
+step : (n a m : ℕ) → a < 256 → n ≡ a + m * 256 → (n % 256 ≡ a) × (n / 256 ≡ m)
+step n a m h e = (omega arith, omega arith)
+
+-- bytes are written back, and a number is read back
+pub le-unle : (k i : ℕ) (s : List ℕ) → Bytes s → le k (unle (from k i s)) ≡ from k i s
+le-unle zero i s b = refl
+le-unle (suc k) i s b =
+    let m = unle (from k (i + 1) s) in
+    let p = step (getD s i 0 + m * 256) (getD s i 0) m (b i) refl in
+    ap (λ x. x ∷ le k ((getD s i 0 + m * 256) / 256)) (p .0)
+    ∙ ap (λ x. getD s i 0 ∷ le k x) (p .1)
+    ∙ ap (λ x. getD s i 0 ∷ x) (le-unle k (i + 1) s b)
+
+pub unle-le : (k n : ℕ) → n < 256 ^ k → unle (le k n) ≡ n
+unle-le zero n h = let l : n < 1 = h in omega arith
+unle-le (suc k) n h =
+    let p : 256 ^ suc k ≡ 256 ^ k * 256 = pow-suc 256 k in
+    let l : n / 256 < 256 ^ k = omega arith in
+    let e = unle-le k (n / 256) l in
+    omega arith
+
+pub unle-lt : (k i : ℕ) (s : List ℕ) → Bytes s → unle (from k i s) < 256 ^ k
+unle-lt zero i s b = lit< tt
+unle-lt (suc k) i s b =
+    let p : 256 ^ suc k ≡ 256 ^ k * 256 = pow-suc 256 k in
+    let l = unle-lt k (i + 1) s b in
+    let h = b i in
+    omega arith
+
+pub length-le : (k n : ℕ) → length (le k n) ≡ k
+length-le zero n = refl
+length-le (suc k) n = ap suc (length-le k (n / 256))
+
+-- the numbers of 2, 4 and 8 bytes are such numbers
+pub two-is : (s : List ℕ) (i : ℕ) → two-at s i ≡ unle (from 2 i s)
+two-is s i = omega arith
+
+pub four-is : (s : List ℕ) (i : ℕ) → four-at s i ≡ unle (from 4 i s)
+four-is s i =
+    let a : i + 1 + 1 ≡ i + 2 = omega arith in
+    let b : i + 2 + 1 ≡ i + 3 = omega arith in
+    rw (a, b) (omega arith)
+
+pub eight-is : (s : List ℕ) (i : ℕ) → eight-at s i ≡ unle (from 8 i s)
+eight-is s i =
+    let a : i + 1 + 1 ≡ i + 2 = omega arith in
+    let b : i + 2 + 1 ≡ i + 3 = omega arith in
+    let c : i + 3 + 1 ≡ i + 4 = omega arith in
+    let d : i + 4 + 1 ≡ i + 5 = omega arith in
+    let e : i + 5 + 1 ≡ i + 6 = omega arith in
+    let f : i + 6 + 1 ≡ i + 7 = omega arith in
+    rw (a, b, c, d, e, f) (omega arith)
+
+-- the bytes at the front of a list are those of the number that stands there
+pub le-at : (k i n : ℕ) (s : List ℕ) → Bytes s → n ≡ unle (from k i s) → le k n ≡ from k i s
+le-at k i n s b e = ap (λ m. le k m) e ∙ le-unle k i s b
+
+-- the forms of a number by its size
 pub encode-1 : (n : ℕ) → n < 253 → encode n ≡ n ∷ []
 encode-1 n h = rw (lt-ltb n 253 h)
 
@@ -38,60 +110,13 @@ encode-4 n h k = rw (le-ltb n 253 (omega arith), le-ltb n 65536 h, lt-ltb n 4294
 pub encode-8 : (n : ℕ) → 4294967296 ≤ n → encode n ≡ 255 ∷ le 8 n
 encode-8 n h = rw (le-ltb n 253 (omega arith), le-ltb n 65536 (omega arith), le-ltb n 4294967296 h)
 
-pub one : (s : List ℕ) (n : ℕ) → 1 ≤ length s → n ≡ getD s 0 0 → getD s 0 0 < 253 → s ≡ encode n ++ drop 1 s
-one s n l e h =
-    let f : encode n ≡ from 1 0 s = encode-1 n (omega arith) ∙ cc in
-    whole 1 s l ∙ ap (λ t. t ++ drop 1 s) (sym f)
-
--- the first byte of a number, and the others
-step : (n a m : ℕ) → a < 256 → n ≡ a + m * 256 → (n % 256 ≡ a) × (n / 256 ≡ m)
-step n a m h e = (omega arith, omega arith)
-
-pub two : (s : List ℕ) (n : ℕ) → 3 ≤ length s → getD s 0 0 ≡ 253 → Bytes s → n ≡ getD s 1 0 + getD s 2 0 * 256 → 253 ≤ n → s ≡ encode n ++ drop 3 s
-two s n l m b e h =
-    let a1 : getD s 1 0 < 256 = b 1 in
-    let a2 : getD s 2 0 < 256 = b 2 in
-    let p = step n (getD s 1 0) (getD s 2 0) a1 e in
-    let q = step (n / 256) (getD s 2 0) 0 a2 (omega (arith, p .1)) in
-    let f : encode n ≡ from 3 0 s = encode-2 n h (omega arith) ∙ cc in
-    whole 3 s l ∙ ap (λ t. t ++ drop 3 s) (sym f)
-
-pub four : (s : List ℕ) (n : ℕ) → 5 ≤ length s → getD s 0 0 ≡ 254 → Bytes s → n ≡ getD s 1 0 + getD s 2 0 * 256 + getD s 3 0 * 65536 + getD s 4 0 * 16777216 → 65536 ≤ n → s ≡ encode n ++ drop 5 s
-four s n l m b e h =
-    let a1 : getD s 1 0 < 256 = b 1 in
-    let a2 : getD s 2 0 < 256 = b 2 in
-    let a3 : getD s 3 0 < 256 = b 3 in
-    let a4 : getD s 4 0 < 256 = b 4 in
-    let p1 = step n (getD s 1 0) (getD s 2 0 + getD s 3 0 * 256 + getD s 4 0 * 65536) a1 (omega arith) in
-    let p2 = step (n / 256) (getD s 2 0) (getD s 3 0 + getD s 4 0 * 256) a2 (omega (arith, p1 .1)) in
-    let p3 = step (n / 256 / 256) (getD s 3 0) (getD s 4 0) a3 (omega (arith, p2 .1)) in
-    let p4 = step (n / 256 / 256 / 256) (getD s 4 0) 0 a4 (omega (arith, p3 .1)) in
-    let f : encode n ≡ from 5 0 s = encode-4 n h (omega arith) ∙ cc in
-    whole 5 s l ∙ ap (λ t. t ++ drop 5 s) (sym f)
-
-pub eight : (s : List ℕ) (n : ℕ) → 9 ≤ length s → getD s 0 0 ≡ 255 → Bytes s → n ≡ getD s 1 0 + getD s 2 0 * 256 + getD s 3 0 * 65536 + getD s 4 0 * 16777216 + getD s 5 0 * 4294967296 + getD s 6 0 * 1099511627776 + getD s 7 0 * 281474976710656 + getD s 8 0 * 72057594037927936 → 4294967296 ≤ n → s ≡ encode n ++ drop 9 s
-eight s n l m b e h =
-    let p1 = step n (getD s 1 0) (getD s 2 0 + getD s 3 0 * 256 + getD s 4 0 * 65536 + getD s 5 0 * 16777216 + getD s 6 0 * 4294967296 + getD s 7 0 * 1099511627776 + getD s 8 0 * 281474976710656) (b 1) (omega arith) in
-    let p2 = step (n / 256) (getD s 2 0) (getD s 3 0 + getD s 4 0 * 256 + getD s 5 0 * 65536 + getD s 6 0 * 16777216 + getD s 7 0 * 4294967296 + getD s 8 0 * 1099511627776) (b 2) (omega (arith, p1 .1)) in
-    let p3 = step (n / 256 / 256) (getD s 3 0) (getD s 4 0 + getD s 5 0 * 256 + getD s 6 0 * 65536 + getD s 7 0 * 16777216 + getD s 8 0 * 4294967296) (b 3) (omega (arith, p2 .1)) in
-    let p4 = step (n / 256 / 256 / 256) (getD s 4 0) (getD s 5 0 + getD s 6 0 * 256 + getD s 7 0 * 65536 + getD s 8 0 * 16777216) (b 4) (omega (arith, p3 .1)) in
-    let p5 = step (n / 256 / 256 / 256 / 256) (getD s 5 0) (getD s 6 0 + getD s 7 0 * 256 + getD s 8 0 * 65536) (b 5) (omega (arith, p4 .1)) in
-    let p6 = step (n / 256 / 256 / 256 / 256 / 256) (getD s 6 0) (getD s 7 0 + getD s 8 0 * 256) (b 6) (omega (arith, p5 .1)) in
-    let p7 = step (n / 256 / 256 / 256 / 256 / 256 / 256) (getD s 7 0) (getD s 8 0) (b 7) (omega (arith, p6 .1)) in
-    let p8 = step (n / 256 / 256 / 256 / 256 / 256 / 256 / 256) (getD s 8 0) 0 (b 8) (omega (arith, p7 .1)) in
-    let f : encode n ≡ from 9 0 s = encode-8 n h ∙ cc in
-    whole 9 s l ∙ ap (λ t. t ++ drop 9 s) (sym f)
-
-pub encode-eight : (n : ℕ) → 4294967296 ≤ n → encode n ≡ 255 ∷ (n % 256) ∷ (n / 256 % 256) ∷ (n / 65536 % 256) ∷ (n / 16777216 % 256) ∷ (n / 4294967296 % 256) ∷ (n / 1099511627776 % 256) ∷ (n / 281474976710656 % 256) ∷ (n / 72057594037927936 % 256) ∷ []
-encode-eight n h =
+-- the bytes that `to_le_bytes` gives, named one by one, after a first byte of 255
+pub encode-array : (n : ℕ) (r : List ℕ) → 4294967296 ≤ n → r ≡ (n % 256) ∷ (n / 256 % 256) ∷ (n / 65536 % 256) ∷ (n / 16777216 % 256) ∷ (n / 4294967296 % 256) ∷ (n / 1099511627776 % 256) ∷ (n / 281474976710656 % 256) ∷ (n / 72057594037927936 % 256) ∷ [] → encode n ≡ 255 ∷ getD r 0 0 ∷ getD r 1 0 ∷ getD r 2 0 ∷ getD r 3 0 ∷ getD r 4 0 ∷ getD r 5 0 ∷ getD r 6 0 ∷ getD r 7 0 ∷ []
+encode-array n r h e =
     let p2 : n / 256 / 256 ≡ n / 65536 = omega arith in
     let p3 : n / 65536 / 256 ≡ n / 16777216 = omega arith in
     let p4 : n / 16777216 / 256 ≡ n / 4294967296 = omega arith in
     let p5 : n / 4294967296 / 256 ≡ n / 1099511627776 = omega arith in
     let p6 : n / 1099511627776 / 256 ≡ n / 281474976710656 = omega arith in
     let p7 : n / 281474976710656 / 256 ≡ n / 72057594037927936 = omega arith in
-    encode-8 n h ∙ rw (p2, p3, p4, p5, p6, p7)
-
--- the same over the array that `to_le_bytes` gave
-pub encode-array : (n : ℕ) (r : List ℕ) → 4294967296 ≤ n → r ≡ (n % 256) ∷ (n / 256 % 256) ∷ (n / 65536 % 256) ∷ (n / 16777216 % 256) ∷ (n / 4294967296 % 256) ∷ (n / 1099511627776 % 256) ∷ (n / 281474976710656 % 256) ∷ (n / 72057594037927936 % 256) ∷ [] → encode n ≡ 255 ∷ getD r 0 0 ∷ getD r 1 0 ∷ getD r 2 0 ∷ getD r 3 0 ∷ getD r 4 0 ∷ getD r 5 0 ∷ getD r 6 0 ∷ getD r 7 0 ∷ []
-encode-array n r h e = encode-eight n h ∙ rw e
+    encode-8 n h ∙ rw (p2, p3, p4, p5, p6, p7, e)

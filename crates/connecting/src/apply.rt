@@ -115,7 +115,7 @@ fn make_outputs<V: CoinsView>(
     view: &mut V,
     chain: &mut Undo,
     tx: &Transaction<'_>,
-    height: u32,
+    site: Site,
     coinbase: bool,
 ) -> Result<(u64, u64), TransactionFault>
     requires { ⌜ V·CoinsView .ok (now view) ⌝ }
@@ -138,7 +138,7 @@ fn make_outputs<V: CoinsView>(
             let coin = Coin {
                 value,
                 lock,
-                height,
+                height: site.height,
                 coinbase,
             };
             at_item(make(view, at, coin), index as usize)?;
@@ -211,7 +211,6 @@ pub fn apply_block<V: CoinsView, C: SpendCondition>(
     chain: &mut Undo,
     block: &Block<'_>,
     site: Site,
-    interval: u32,
 ) -> Result<Sums, BlockFault>
     requires { ⌜ V·CoinsView .ok (now view) ⌝ }
     ensures { λ _. ⌜ V·CoinsView .ok (now (view .exit)) ⌝ }

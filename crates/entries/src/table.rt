@@ -2,6 +2,7 @@
 ghost use mathlib.Core.Path.{_≡_};
 ghost use mathlib.Core.List.{[], _∷_};
 ghost use Prim.Native.Nat.{_<_, _≤_};
+ghost use lib.Dec.{ltb};
 ghost use lib.ListN.{length, getD};
 ghost use ghost.Atoms.{sem};
 ghost use denote.Follow.{follows};
@@ -96,6 +97,13 @@ impl EntryTable {
     {
         let entries = Vec::with_capacity(heap, MOST_ENTRIES)?;
         Ok(EntryTable { entries })
+    }
+
+    // Whether one entry more has a place.
+    pub fn has_room(&self) -> bool
+        ensures { λ r. ⌜ r ≡ ltb (length (vec-items (now (self .entry) .entries))) 64 ⌝ }
+    {
+        self.entries.len() < MOST_ENTRIES
     }
 
     // The place of k, as `Ok` where it has an entry.

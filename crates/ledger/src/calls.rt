@@ -93,17 +93,14 @@ impl<V: CoinsView, C: SpendCondition> Ledger<V, C> {
         let site = Site {
             height,
             maturity: self.terms.maturity,
+            halving: self.terms.halving,
         };
-        let halving = self.terms.halving;
         let _ = self.chain.push(Record::Mark(*block.previous()));
         let applied = apply_block(
             &mut self.view,
             &self.condition,
             &mut self.chain,
-            block,
-            site,
-            halving,
-        );
+            block, site);
         if applied.is_err() {
             let _ = unwind(&mut self.view, &mut self.chain);
         }

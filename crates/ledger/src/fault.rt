@@ -4,6 +4,8 @@ ghost use Rattle.connecting.specs.Refusals.{placed};
 ghost use Rattle.ledger.specs.Refusals.{ledger-refusal};
 ghost use Rattle.ledger.specs.declared.fault.LedgerFault.the-variants.{Block as OfBlock};
 use connecting::fault::BlockFault;
+use connecting::fault::BlockFaultDebug;
+use connecting::fault::BlockFaultPartialEq;
 use refusal::Reason;
 use refusal::Refusal;
 

@@ -4,7 +4,7 @@ ghost use mathlib.Core.Bool.{Bool, _||_};
 ghost use mathlib.Core.List.{List};
 ghost use Prim.Native.Nat.{ℕ};
 ghost use Rattle.coins.specs.declared.coin.Lock.{Lock};
-ghost use Rattle.views.specs.Conditions.{badge-opens, clock-opens};
+ghost use Rattle.views.specs.Conditions.{bytes-of, badge-opens, clock-opens};
 use coins::coin::Lock;
 
 // One yes or no for each lock, witness and height, the same at every asking.
@@ -19,11 +19,18 @@ pub trait SpendCondition {
 #[derive(Clone, Copy, PartialEq, Eq, Debug)]
 pub struct Badge;
 
+// The 8 bytes of a lock's argument, least byte first.
+fn argument_bytes(lock: &Lock) -> [u8; 8]
+    ensures { λ r. ⌜ r ≡ bytes-of (now (lock .entry) .argument) ⌝ }
+{
+    lock.argument.to_le_bytes()
+}
+
 pub impl SpendCondition for Badge as BadgeCondition {
     ghost opens = { λ _. badge-opens };
 
     fn opens(&self, lock: &Lock, witness: &[u8], _height: u32) -> bool {
-        lock.kind == 1 && witness == lock.argument.to_le_bytes()
+        lock.kind == 1 && witness == argument_bytes(lock)
     }
 }
 

@@ -62,10 +62,11 @@ impl<'a> Transactions<'a> {
         let block = self.block;
         let offset = self.place;
         let id = id_at(block, offset);
+        let count = offset + 32;
         let inputs = Items {
             block,
-            place: offset + 33,
-            left: block[offset + 32] as usize,
+            place: count + 1,
+            left: block[count] as usize,
             inputs: true,
         };
         let end = past_inputs(block, inputs.place, inputs.left);

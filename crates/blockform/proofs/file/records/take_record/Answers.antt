@@ -1,7 +1,7 @@
 use borrow.Author.Needs.{needs}
 use lib.ListN.{length-drop}
 use Rattle.std.proofs.shelf.Lists.{drop-drop}
-use Rattle.compact.proofs.Laws.{rest-is}
+use Rattle.compact.proofs.Parts.{rest-is}
 use Rattle.blockform.proofs.file.records.take_record.Needs as need
 
 pub returns : need.returns

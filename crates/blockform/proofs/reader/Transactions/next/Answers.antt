@@ -5,7 +5,7 @@ use lib.ListN.{getD}
 use Rattle.std.specs.Results.{isOk}
 use Rattle.blockform.specs.Form.{times, input, output, transaction}
 use Rattle.blockform.specs.Value.{spends, makes}
-use Rattle.blockform.specs.Places.{list-at, input-at, input-end, inputs-end, output-at, output-end, transaction-at, transaction-end}
+use Rattle.blockform.specs.Places.{list-at, end-of, input-at, input-end, inputs-end, output-at, output-end, transaction-at, transaction-end}
 use Rattle.blockform.specs.Readers.{items-of, transactions-of, Items-good, Transactions-good}
 use Rattle.blockform.proofs.Steps.{Found, list-none, list-taken, times-taken, map-list, transaction-ends}
 use Rattle.blockform.proofs.Walk.{next-found}
@@ -24,11 +24,11 @@ id-at-id-requires c κs = omega (arith, next-found (c .args .self .now) (c .pre)
 pub add-inputs : need.add-inputs
 add-inputs c = omega (arith, next-found (c .args .self .now) (c .pre) (c .if-self-eq0 .left) .id)
 
-pub add-inputs-2 : need.add-inputs-2
-add-inputs-2 c = omega (arith, next-found (c .args .self .now) (c .pre) (c .if-self-eq0 .left) .id)
+pub add-count : need.add-count
+add-count c = omega (arith, next-found (c .args .self .now) (c .pre) (c .if-self-eq0 .left) .id)
 
-pub index-block-offset : need.index-block-offset
-index-block-offset c = omega (arith, next-found (c .args .self .now) (c .pre) (c .if-self-eq0 .left) .id)
+pub index-block-count : need.index-block-count
+index-block-count c = omega (arith, next-found (c .args .self .now) (c .pre) (c .if-self-eq0 .left) .id)
 
 pub past-inputs-end-requires : need.past-inputs-end-requires
 past-inputs-end-requires c κs = next-found (c .args .self .now) (c .pre) (c .if-self-eq0 .left) .ins
@@ -53,7 +53,7 @@ returns c =
     let b = r .block .now in
     let at = r .place in
     let f = next-found r (c .pre) (c .if-self-eq0 .left) in
-    let mid = c .past-inputs-end .ensures in
+    let mid : c .past-inputs-end .result ≡ inputs-end b at = c .past-inputs-end .ensures in
     let m = ap (λ k. getD b k 0) mid in
     let end : c .past-inputs-end .result + 1 + 17 * getD b (c .past-inputs-end .result) 0 ≡ transaction-end b at = omega (arith, f .end) in
     record {
@@ -62,7 +62,7 @@ returns c =
         transaction-at b at,
         record {
           id = c .id-at-id .ensures;
-          inputs = map-list spends (input-at b) (input-end b) (getD b (at + 32) 0) (at + 33);
+          inputs = map-list spends (input-at b) (input-end b) (getD b (at + 32) 0) (at + 32 + 1);
           outputs = ap (λ k. list-at (getD b k 0) (λ i. makes (output-at b i)) output-end (k + 1)) mid ∙ map-list makes (output-at b) output-end (getD b (inputs-end b at) 0) (inputs-end b at + 1);
           good-inputs = (f .few-in, f .ins);
           good-outputs = (omega (arith, f .few-out), ap (λ k. isOk (times (getD b k 0) (output b) (k + 1))) mid ∙ f .outs);

@@ -2,6 +2,7 @@ use mathlib.Core.Path.{_≡_, refl, sym, ap, _∙_}
 use mathlib.Core.Bool.{true, false}
 use native.Mathlib.Omega.{arith}
 use Prim.Native.Nat.{_+_, _-_, _≤_, _<_}
+use borrow.Author.Tests.{ltb-true, ltb-false}
 use lib.ListN.{length}
 use Rattle.std.specs.Of.Vec.{vec-items, vec-cap}
 use Rattle.std.specs.declared.option.Option.{Option}
@@ -36,8 +37,8 @@ returns-in-Ok g c =
     let there = seen k es (c .in-Ok .i) (c .index .result .now) (c .in-Ok .ensures tt .2) (c .index .ensures) in
     record { well = c .pre; fixed = refl; map = refl; value = sym (over-at _ _ _ _ _ (c .pre .1) rows k _ there); entries = look-kept k _ es _ there; below = refl }
 
-pub returns-then-len-lt-MOST-ENTRIES : need.returns-then-len-lt-MOST-ENTRIES
-returns-then-len-lt-MOST-ENTRIES g c =
+pub returns-then-has-room : need.returns-then-has-room
+returns-then-has-room g c =
     let v = g .V·CoinsView in
     let s = c .args .self .now in
     let es = vec-items (s .table .entries) in
@@ -46,13 +47,13 @@ returns-then-len-lt-MOST-ENTRIES g c =
     let rows = v .sorted (s .below) (c .pre .0) in
     let e = c .in-Some .ensures tt in
     let new = c .in-Err .ensures tt .2 in
-    let less : length es < 64 = omega arith in
+    let less = ltb-true (length es) 64 (sym (c .if-has-room .ensures tt)) in
     let items = c .add .ensures .items ∙ ap (λ x. with-entry k x es) (c .clean .ensures) in
     let says = says-is _ _ _ _ _ _ _ _ _ _ _ (look-clean _ _ _ _ _ (c .pre .1) rows k (c .in-Some .coin) new (sym (e .value)) less) items (c .add .ensures .held) refl (e .map) (e .fixed) in
     record { well = (e .well, says .0); fixed = e .fixed; map = says .1; value = e .value ∙ sym (over-at _ _ _ _ _ (c .pre .1) rows k None new); entries = items ∙ look-entered k (c .in-Some .coin) es new less; below = e .map }
 
-pub returns-else-len-lt-MOST-ENTRIES : need.returns-else-len-lt-MOST-ENTRIES
-returns-else-len-lt-MOST-ENTRIES g c =
+pub returns-else-has-room : need.returns-else-has-room
+returns-else-has-room g c =
     let v = g .V·CoinsView in
     let s = c .args .self .now in
     let es = vec-items (s .table .entries) in
@@ -60,5 +61,5 @@ returns-else-len-lt-MOST-ENTRIES g c =
     let rows = v .sorted (s .below) (c .pre .0) in
     let e = c .in-Some .ensures tt in
     let new = c .in-Err .ensures tt .2 in
-    let full : 64 ≤ length es = omega arith in
+    let full = ltb-false (length es) 64 (sym (c .if-has-room .ensures tt)) in
     record { well = (e .well, kept-moved _ _ _ _ _ (c .pre .1) rows _ _ (e .map) (e .fixed)); fixed = e .fixed; map = ap (over-below es) (e .map); value = e .value ∙ sym (over-at _ _ _ _ _ (c .pre .1) rows k None new); entries = look-passed k (c .in-Some .coin) es new full; below = e .map }

@@ -25,8 +25,8 @@ index-self-i c =
 pub remove-at-requires : need.remove-at-requires
 remove-at-requires c κs = record { within = c .pre .within; inside = spot _ _ _ (c .pre) _ (c .in-Ok .ensures tt) }
 
-pub returns-in-Ok : need.returns-in-Ok
-returns-in-Ok c =
+pub returns : need.returns
+returns c =
     let s = c .args .self .now in
     let f = c .in-Ok .ensures tt in
     let long : length (c .remove-at .last .cells) ≡ length (s .cells .now) = omega arith in
@@ -34,8 +34,8 @@ returns-in-Ok c =
     let map : used-cells (s .used - 1) (c .remove-at .last .cells) ≡ without (c .args .at .now) (used-cells (s .used) (s .cells .now)) = shrunk _ _ _ (c .pre) _ _ f (c .remove-at .ensures) in
     record { well = ok-without _ _ _ _ _ (c .pre) long fits map; fixed = long; map = map; value = sym (coin-there _ _ _ (c .pre) _ f _) }
 
-pub returns-in-Err : need.returns-in-Err
-returns-in-Err c =
+pub returns-in-rest : need.returns-in-rest
+returns-in-rest c =
     let s = c .args .self .now in
-    let none = c .in-Err .ensures tt .2 in
+    let none = c .in-rest .ensures tt .2 in
     record { well = c .pre; fixed = refl; map = sym (remove-absent outpoints (c .args .at .now) (used-cells (s .used) (s .cells .now)) none); value = sym none }

@@ -18,4 +18,4 @@ both : (k : ℕ) (xs ys zs : List ℕ) (r : Bool) → k ≡ 1 → ys ≡ zs → 
 both k xs ys zs r e f h = tested xs ys r h ∙ ap (sameBytes xs) f ∙ ap (λ b. b && sameBytes xs zs) (sym (eq-eqb k 1 e))
 
 pub returns-then-lock-eq1 : need.returns-then-lock-eq1
-returns-then-lock-eq1 c = both _ _ _ _ _ (c .if-lock-eq1 .taken) (c .to-le-bytes .ensures) (matches-decides _ _ _ (c .eq .ensures))
+returns-then-lock-eq1 c = both _ _ _ _ _ (c .if-lock-eq1 .taken) (c .argument-bytes .ensures) (matches-decides _ _ _ (c .eq .ensures))
