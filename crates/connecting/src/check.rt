@@ -130,12 +130,7 @@ fn check_others(mut others: Transactions<'_>) -> Result<usize, BlockFault>
 }
 
 // The checks of a block that would follow the tip `tip` at height `height`, the last height being `last`. Answers how many undo entries it needs.
-pub fn check_block(
-    block: &Block<'_>,
-    tip: &[u8; 32],
-    height: u32,
-    last: u32,
-) -> Result<usize, BlockFault>
+pub fn check_block(block: &Block<'_>, tip: &[u8; 32], height: u32, last: u32) -> Result<usize, BlockFault>
     requires { ⌜ Block-good (now block) ⌝ }
     ensures is { λ r. ⌜ r ≡ then (checks (now (tip .entry)) height last (block-of (now (block .entry)))) (λ _. Ok (needsOf (block-of (now (block .entry))))) ⌝ }
     ensures few { λ r. ⌜ made r (λ n. n ≤ 8257) ⌝ }
