@@ -104,8 +104,7 @@ input-sound b at e y h =
     let p1 = field-sound 32 b at in
     let p2 = number-sound 4 b (at + 32) (four-at b (at + 32)) y (omega (arith, o .inside)) (four-is b (at + 32)) ∙ ap (λ k. le 4 (four-at b (at + 32)) ++ drop k b) e36 in
     let p3 = byte-sound b (at + 36) (length w) (omega (arith, o .inside)) lw (omega (arith, o .small)) ∙ ap (λ k. encode (length w) ++ drop k b) e37 in
-    let p4 = field-sound n b (at + 37) ∙ ap (λ k. w ++ drop k b) (sym (o .end)) in
-    (
+    let p4 = field-sound n b (at + 37) ∙ ap (λ k. w ++ drop k b) (sym (o .end)) in (
       (li, fit, omega (arith, o .small)),
       join (id-at b at) (i ++ (encode (length w) ++ w)) z p1 (join i (encode (length w) ++ w) z p2 (join (encode (length w)) w z p3 p4)),
       o .end,
@@ -203,24 +202,24 @@ pub list-codec : {X : Type 0} (b : List ℕ) (step : ℕ → Result ℕ FormFaul
 list-codec b step value end enc P k d =
     record {
       sound = λ at e y h. let o = counted-ok step end d b at e h in
-        let n = getD b at 0 in
-        let xs = list-at n value end (at + 1) in
-        let ll : length xs ≡ n = length-list value end n (at + 1) in
-        let r = all-sound b step value end enc P k y n (at + 1) e (o .steps) in
-        let p = byte-sound b at (length xs) (o .inside) ll (omega (arith, o .few)) in
-        ((omega (arith, o .few), r .0), join (encode (length xs)) (encode-all enc xs) (drop e b) p (r .1), o .is);
+          let n = getD b at 0 in
+          let xs = list-at n value end (at + 1) in
+          let ll : length xs ≡ n = length-list value end n (at + 1) in
+          let r = all-sound b step value end enc P k y n (at + 1) e (o .steps) in
+          let p = byte-sound b at (length xs) (o .inside) ll (omega (arith, o .few)) in
+          ((omega (arith, o .few), r .0), join (encode (length xs)) (encode-all enc xs) (drop e b) p (r .1), o .is);
       complete = λ xs at t h l e. let n = length xs in
-        let f = byte-complete b at n (encode-all enc xs ++ t) (omega (arith, h .0)) l (e ∙ append-assoc (encode n) (encode-all enc xs) t) in
-        let g = f .0 in
-        let r = all-complete b step value end enc P k xs (at + 1) t (h .1) (f .1 .inside) (f .1 .rest) in
-        let c = count-yes 64 b at n (lit< tt) (omega (arith, f .1 .inside)) (sym g) (h .0) in
-        let In : ℕ → Type 0 = λ m. end-of m end (at + 1) ≤ length b in
-        record {
-          answer = ap (λ z. then z (λ m. times (m .0) step (m .1))) c ∙ r .answer ∙ ap (λ m. Ok (end-of m end (at + 1))) (sym g);
-          is = ap (λ m. list-at m value end (at + 1)) g ∙ r .is;
-          rest = ap (λ m. drop (end-of m end (at + 1)) b) g ∙ r .rest;
-          inside = subst In (sym g) (r .inside);
-        };
+          let f = byte-complete b at n (encode-all enc xs ++ t) (omega (arith, h .0)) l (e ∙ append-assoc (encode n) (encode-all enc xs) t) in
+          let g = f .0 in
+          let r = all-complete b step value end enc P k xs (at + 1) t (h .1) (f .1 .inside) (f .1 .rest) in
+          let c = count-yes 64 b at n (lit< tt) (omega (arith, f .1 .inside)) (sym g) (h .0) in
+          let In : ℕ → Type 0 = λ m. end-of m end (at + 1) ≤ length b in
+          record {
+            answer = ap (λ z. then z (λ m. times (m .0) step (m .1))) c ∙ r .answer ∙ ap (λ m. Ok (end-of m end (at + 1))) (sym g);
+            is = ap (λ m. list-at m value end (at + 1)) g ∙ r .is;
+            rest = ap (λ m. drop (end-of m end (at + 1)) b) g ∙ r .rest;
+            inside = subst In (sym g) (r .inside);
+          };
     }
 
 inputs-codec : (b : List ℕ) → Codec b (counted (input b) b) (counted-at (input-at b) (input-end b) b) (counted-end (input-end b) b) (encode-list encode-input) (Few Input-within)
@@ -241,8 +240,7 @@ transaction-sound b at e y h =
     let o = outputs-codec b .sound (inputs-end b at) e y (ap (λ k. counted (output b) b k) (sym m) ∙ q .2) in
     let v = transaction-at b at in
     let x = encode-list encode-input (v .inputs) in
-    let z = encode-list encode-output (v .outputs) in
-    (
+    let z = encode-list encode-output (v .outputs) in (
       (length-take-le 32 (drop at b) (omega (arith, f .1)), i .0, o .0),
       join (v .id) (x ++ z) (drop e b) (field-sound 32 b at) (join x z (drop e b) (i .1) (ap (λ k. drop k b) m ∙ o .1)),
       o .2,
@@ -283,8 +281,7 @@ block-sound b e y h =
     let v = block-at b in
     let x = encode-list encode-transaction (v .transactions) in
     let last : drop 64 b ≡ x ++ [] = t .1 ∙ ap (λ z. x ++ z) (drop-of-length-le b w) in
-    let whole = join (v .id) (v .previous ++ x) [] (field-sound 32 b 0) (join (v .previous) x [] (field-sound 32 b 32) last) in
-    (
+    let whole = join (v .id) (v .previous ++ x) [] (field-sound 32 b 0) (join (v .previous) x [] (field-sound 32 b 32) last) in (
       (length-take-le 32 (drop 0 b) (omega (arith, f .1)), length-take-le 32 (drop 32 b) (omega (arith, f .0, g .1)), t .0),
       whole ∙ append-nil (encode-block v),
     )
@@ -297,13 +294,12 @@ block-complete b v h e =
     let t = transactions-codec b .complete (v .transactions) 64 [] (h .2) (g .inside) (g .rest ∙ sym (append-nil x)) in
     let k = counted-end (transaction-end b) b 64 in
     let l = length-drop k b in
-    let z : length b ≤ k = omega (arith, ap length (t .rest)) in
-    (
+    let z : length b ≤ k = omega (arith, ap length (t .rest)) in (
       k,
       ap (λ r. then r (λ i. then (field 32 b i) (λ j. then (counted (transaction b) b j) (λ m. ended b m)))) (field-yes 32 b 0 (f .inside))
-      ∙ ap (λ r. then r (λ j. then (counted (transaction b) b j) (λ m. ended b m))) (field-yes 32 b 32 (g .inside))
-      ∙ ap (λ r. then r (λ m. ended b m)) (t .answer)
-      ∙ ap (λ c. cond c (Err (Tail k)) (Ok k)) (le-ltb k (length b) z),
+          ∙ ap (λ r. then r (λ j. then (counted (transaction b) b j) (λ m. ended b m))) (field-yes 32 b 32 (g .inside))
+          ∙ ap (λ r. then r (λ m. ended b m)) (t .answer)
+          ∙ ap (λ c. cond c (Err (Tail k)) (Ok k)) (le-ltb k (length b) z),
       λ j. record { id = f .is j; previous = g .is j; transactions = t .is j },
     )
 

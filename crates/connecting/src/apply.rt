@@ -233,6 +233,8 @@ pub fn apply_block<V: CoinsView, C: SpendCondition>(
         made: made.saturating_add(sums.made),
         spent: sums.spent,
         fees: sums.fees,
-        burned: (due - claimed).saturating_add(burned).saturating_add(sums.burned),
+        burned: (due - claimed)
+            .saturating_add(burned)
+            .saturating_add(sums.burned),
     })
 }

@@ -24,7 +24,10 @@ fn is_null(item: &Item<'_>) -> bool
     ensures { λ r. ⌜ r ≡ null-piece (piece-of (now (item .entry))) ⌝ }
 {
     match item {
-        Item::Input { id, index, .. } => Outpoint { id: **id, index: *index }.is_null(),
+        Item::Input { id, index, .. } => Outpoint {
+            id: **id,
+            index: *index,
+        }.is_null(),
         Item::Output { .. } => false,
     }
 }
@@ -163,7 +166,12 @@ fn is_same(a: &[u8; 32], b: &[u8; 32]) -> bool
 }
 
 // The checks of a block that would follow the tip `tip` at height `height`, the last height being `last`. Answers how many undo entries it needs.
-pub fn check_block(block: &Block<'_>, tip: &[u8; 32], height: u32, last: u32) -> Result<usize, BlockFault>
+pub fn check_block(
+    block: &Block<'_>,
+    tip: &[u8; 32],
+    height: u32,
+    last: u32,
+) -> Result<usize, BlockFault>
     requires { ⌜ Block-good (now block) ⌝ }
     ensures is { λ r. ⌜ r ≡ then (checks (now (tip .entry)) height last (block-of (now (block .entry)))) (λ _. Ok (needsOf (block-of (now (block .entry))))) ⌝ }
     ensures few { λ r. ⌜ made r (λ n. n ≤ 8257) ⌝ }

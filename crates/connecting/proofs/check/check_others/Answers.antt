@@ -18,8 +18,7 @@ pub loop-tx-again : need.loop-tx-again
 loop-tx-again c =
     let l = c .loop-tx in
     let h = c .in-Some .ensures tt .hands in
-    let few = within (l .t) _ 128 _ _ (c .check-spending .ensures .few) (c .at-transaction .ensures) (c .in-Continue-needed .was tt) in
-    (
+    let few = within (l .t) _ 128 _ _ (c .check-spending .ensures .few) (c .at-transaction .ensures) (c .in-Continue-needed .was tt) in (
       c .in-Some .ensures tt .good,
       omega (arith, l .inv .1, ap length (h .2)),
       omega (arith, few, l .inv .2),
