@@ -2,7 +2,6 @@
 use mathlib.Core.Path.{_≡_, refl, sym, ap, _∙_}
 use mathlib.Core.List.{List, [], _∷_}
 use Prim.Native.Nat.{ℕ, zero, suc, _+_, _*_, _<_, _≤_}
-use native.Mathlib.Nat.{add-assoc}
 use native.Mathlib.Omega.{arith}
 use lib.ListN.{length, getD, take, drop, length-drop}
 use lib.Seq.{drop-drop, getD-drop}
@@ -24,15 +23,12 @@ Bytes xs = (i : ℕ) → getD xs i 0 < 256
 
 -- ---- the bytes of a word
 
-front : (n : ℕ) (xs : List ℕ) (place : ℕ) → place + n ≤ length xs → take n (drop place xs) ≡ map (λ k. getD xs k 0) (counting place n)
+pub front : (n : ℕ) (xs : List ℕ) (place : ℕ) → place + n ≤ length xs → take n (drop place xs) ≡ map (λ k. getD xs k 0) (counting place n)
 front zero xs place h = refl
 front (suc n) xs place h =
     let l : place < length xs = omega arith in
     let m : (place + 1) + n ≤ length xs = omega arith in
     ap (take (suc n)) (drop-more xs place 0 l) ∙ ap (λ t. getD xs place 0 ∷ t) (front n xs (place + 1) m)
-
-pub eight : (xs : List ℕ) (place : ℕ) → place + 8 ≤ length xs → take 8 (drop place xs) ≡ getD xs place 0 ∷ getD xs (place + 1) 0 ∷ getD xs (place + 2) 0 ∷ getD xs (place + 3) 0 ∷ getD xs (place + 4) 0 ∷ getD xs (place + 5) 0 ∷ getD xs (place + 6) 0 ∷ getD xs (place + 7) 0 ∷ []
-eight xs place h = front 8 xs place h ∙ simp add-assoc
 
 -- ---- the order
 
@@ -50,6 +46,9 @@ by-fronts (suc n) p q (x ∷ xs) (y ∷ ys) h k u v =
 bytes-drop : (place : ℕ) (xs : List ℕ) → Bytes xs → Bytes (drop place xs)
 bytes-drop place xs u i = rw getD-drop (u (place + i))
 
+same-rank : (x y : ℕ) → x ≡ y → rank x y ≡ Equal
+same-rank x y e = grind (arith, tells)
+
 -- the words x and y at a place decide, and else what follows them
 module _ (xs ys : List ℕ) (place : ℕ) (h : place + 8 ≤ length xs) (k : place + 8 ≤ length ys) (u : Bytes xs) (v : Bytes ys) (x y : ℕ) (ex : x ≡ word-at xs place) (ey : y ≡ word-at ys place) where
   by-words : lex unsigned (drop place xs) (drop place ys) ≡ thenBy (rank x y) (lex unsigned (drop (place + 8) xs) (drop (place + 8) ys))
@@ -58,12 +57,9 @@ module _ (xs ys : List ℕ) (place : ℕ) (h : place + 8 ≤ length xs) (k : pla
       let b : 8 ≤ length (drop place ys) = simp length-drop (omega arith) in
       by-fronts 8 0 0 (drop place xs) (drop place ys) a b (bytes-drop place xs u) (bytes-drop place ys v) ∙ (λ i. thenBy (rank (sym ex i) (sym ey i)) (lex unsigned (drop-drop 8 place xs i) (drop-drop 8 place ys i)))
 
-  same-rank : x ≡ y → rank x y ≡ Equal
-  same-rank e = grind (arith, tells)
-
   pub words-equal : (next : ℕ) → place + 8 ≡ next → x ≡ y → lex unsigned (drop place xs) (drop place ys) ≡ lex unsigned (drop next xs) (drop next ys)
   words-equal next n e =
-      by-words ∙ ap (λ o. thenBy o (lex unsigned (drop (place + 8) xs) (drop (place + 8) ys))) (same-rank e) ∙ ap (λ m. lex unsigned (drop m xs) (drop m ys)) n
+      by-words ∙ ap (λ o. thenBy o (lex unsigned (drop (place + 8) xs) (drop (place + 8) ys))) (same-rank x y e) ∙ ap (λ m. lex unsigned (drop m xs) (drop m ys)) n
 
   pub words-differ : (x ≡ y → ⊥) → lex unsigned (drop place xs) (drop place ys) ≡ rank x y
   words-differ n =
