@@ -31,10 +31,10 @@ written-is-read n t h =
     ⊎-elim
     (λ a. rw (encode-1 n a) (granted (n ∷ t) 1 n (grind (arith, tells)) (grind (arith, tells)) (omega arith) (grind (arith, tells))))
     (⊎-elim
-     (λ a. rw (encode-2 n (a .0) (a .1)) (granted (253 ∷ le 2 n ++ t) 3 n refl (two-is (253 ∷ le 2 n ++ t) 1 ∙ unle-le 2 n (a .1)) (omega arith) (a .0)))
-     (⊎-elim
-      (λ a. rw (encode-4 n (a .0) (a .1)) (granted (254 ∷ le 4 n ++ t) 5 n refl (four-is (254 ∷ le 4 n ++ t) 1 ∙ unle-le 4 n (a .1)) (omega arith) (a .0)))
-      (λ a. rw (encode-8 n a) (granted (255 ∷ le 8 n ++ t) 9 n refl (eight-is (255 ∷ le 8 n ++ t) 1 ∙ unle-le 8 n h) (omega arith) a))))
+    (λ a. rw (encode-2 n (a .0) (a .1)) (granted (253 ∷ le 2 n ++ t) 3 n refl (two-is (253 ∷ le 2 n ++ t) 1 ∙ unle-le 2 n (a .1)) (omega arith) (a .0)))
+    (⊎-elim
+    (λ a. rw (encode-4 n (a .0) (a .1)) (granted (254 ∷ le 4 n ++ t) 5 n refl (four-is (254 ∷ le 4 n ++ t) 1 ∙ unle-le 4 n (a .1)) (omega arith) (a .0)))
+    (λ a. rw (encode-8 n a) (granted (255 ∷ le 8 n ++ t) 9 n refl (eight-is (255 ∷ le 8 n ++ t) 1 ∙ unle-le 8 n h) (omega arith) a))))
     (sizes n)
 
 -- by the first byte: the span, the least number and the number
@@ -73,10 +73,10 @@ read-is-written s n t b h =
     ⊎-elim
     (λ a. let l : n < 253 = omega (arith, marked-1 s a .is, read-parts s n t h .2) in ap (λ u. u ++ t) (encode-1 n l) ∙ sym (small-is-a-byte s n t l h))
     (⊎-elim
-     (λ a. wide s 2 253 253 n t b a (record { long = rw a; least-is = rw a; is = rw a (two-is s 1) }) h (encode-2 n))
-     (⊎-elim
-      (λ a. wide s 4 254 65536 n t b a (record { long = rw a; least-is = rw a; is = rw a (four-is s 1) }) h (encode-4 n))
-      (λ a. wide s 8 255 4294967296 n t b a (record { long = rw a; least-is = rw a; is = rw a (eight-is s 1) }) h (λ l _. encode-8 n l))))
+    (λ a. wide s 2 253 253 n t b a (record { long = rw a; least-is = rw a; is = rw a (two-is s 1) }) h (encode-2 n))
+    (⊎-elim
+    (λ a. wide s 4 254 65536 n t b a (record { long = rw a; least-is = rw a; is = rw a (four-is s 1) }) h (encode-4 n))
+    (λ a. wide s 8 255 4294967296 n t b a (record { long = rw a; least-is = rw a; is = rw a (eight-is s 1) }) h (λ l _. encode-8 n l))))
     (markers s b)
 
 same-parts : (n m : ℕ) (t u : List ℕ) → _≡_ {A = Result (ℕ × List ℕ) SizeFault} (Ok (n, t)) (Ok (m, u)) → (n ≡ m) × (t ≡ u)

@@ -1,11 +1,12 @@
 // Inputs, outputs and transactions, handed out one after another.
 ghost use mathlib.Core.Path.{_≡_};
 ghost use mathlib.Core.List.{[], _∷_};
-ghost use Prim.Native.Nat.{_≤_};
+ghost use Prim.Native.Nat.{_+_, _≤_};
 ghost use lib.ListN.{length};
 ghost use Rattle.std.specs.Options.{Cases};
-ghost use Rattle.blockform.specs.Value.{TransactionValue};
-ghost use Rattle.blockform.specs.Readers.{items-of, piece-of, transactions-of, Items-good, Transactions-good, Hands};
+ghost use Rattle.std.specs.Slices.{found};
+ghost use Rattle.blockform.specs.Value.{TransactionValue, encode-piece, encode-transaction, Piece-within};
+ghost use Rattle.blockform.specs.Readers.{items-of, piece-of, offset-of, next-item, transactions-of, next-transaction, Items-good, Transactions-good, Hands};
 use crate::reader::Item;
 use crate::reader::Items;
 use crate::reader::Transaction;
@@ -29,6 +30,8 @@ impl<'a> Items<'a> {
         requires { ⌜ Items-good (now self) ⌝ }
         ensures good { λ _. ⌜ Items-good (now (self .exit)) ⌝ }
         ensures hands { λ r. ⌜ Cases r ((items-of (now (self .entry)) ≡ []) × (items-of (now (self .exit)) ≡ [])) (λ i. items-of (now (self .entry)) ≡ piece-of i ∷ items-of (now (self .exit))) ⌝ }
+        ensures offset { λ r. ⌜ found r (λ i. (offset-of i ≡ next-item (now (self .entry))) × (next-item (now (self .exit)) ≡ next-item (now (self .entry)) + length (encode-piece (piece-of i)))) ⌝ }
+        ensures within { λ r. ⌜ found r (λ i. Piece-within (piece-of i)) ⌝ }
     {
         if self.left == 0 {
             return None;
@@ -54,7 +57,7 @@ impl<'a> Transactions<'a> {
     pub fn next(&mut self) -> Option<Transaction<'a>>
         requires { ⌜ Transactions-good (now self) ⌝ }
         ensures good { λ _. ⌜ Transactions-good (now (self .exit)) ⌝ }
-        ensures hands { λ r. ⌜ Cases r ((transactions-of (now (self .entry)) ≡ []) × (transactions-of (now (self .exit)) ≡ [])) (λ t. (v : TransactionValue) × Hands t v × (transactions-of (now (self .entry)) ≡ v ∷ transactions-of (now (self .exit)))) ⌝ }
+        ensures hands { λ r. ⌜ Cases r ((transactions-of (now (self .entry)) ≡ []) × (transactions-of (now (self .exit)) ≡ [])) (λ t. (v : TransactionValue) × Hands t v (next-transaction (now (self .entry))) × (transactions-of (now (self .entry)) ≡ v ∷ transactions-of (now (self .exit))) × (next-transaction (now (self .exit)) ≡ next-transaction (now (self .entry)) + length (encode-transaction v))) ⌝ }
     {
         if self.left == 0 {
             return None;
