@@ -1,7 +1,7 @@
 // Readers over bytes that were accepted as a block. What is left of each is well formed, so reading has no fault.
 use coins::coin::Lock;
 
-pub mod accepted;
+mod accepted;
 mod fields;
 mod walk;
 

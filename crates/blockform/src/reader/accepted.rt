@@ -3,7 +3,7 @@ ghost use mathlib.Core.Path.{_≡_};
 ghost use Rattle.std.specs.Results.{Cases};
 ghost use Rattle.std.specs.Vec.{made};
 ghost use Rattle.std.specs.declared.result.Result.the-variants.{Ok, Err};
-ghost use Rattle.blockform.specs.Laws.{Accepted, Read-is-encoded, Encoded-is-read, One-block};
+ghost use Rattle.blockform.specs.Laws.{Accepted};
 ghost use Rattle.blockform.specs.Places.{read-block};
 ghost use Rattle.blockform.specs.Value.{BlockValue};
 ghost use Rattle.blockform.specs.Readers.{block-of, transactions-of, next-transaction, Block-good, Transactions-good};
