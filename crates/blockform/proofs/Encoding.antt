@@ -11,7 +11,7 @@ use lib.ListN.{length, getD, take, drop, length-drop, length-append, take-append
 use lib.Seq.{drop-drop, getD-drop, length-take-le, take-at, drop-at}
 use Rattle.std.proofs.shelf.Ways.{tells}
 use Rattle.std.proofs.shelf.Lists.{drop-more}
-use Rattle.std.specs.Results.{isOk}
+use Rattle.std.specs.Results.{isOk, Cases}
 use Rattle.std.specs.declared.result.Result.{Result}
 use Rattle.std.specs.declared.result.Result.the-variants.{Ok, Err}
 use Rattle.compact.specs.Compact.{le, encode, four-at, eight-at, Bytes}
@@ -21,8 +21,10 @@ use Rattle.blockform.specs.declared.fault.FormFault.the-variants.{Tail, OverSi
 use Rattle.blockform.specs.Form.{then, times, field, count, counted, input, output, transaction, ended, block}
 use Rattle.blockform.specs.Value.{InputValue, OutputValue, TransactionValue, BlockValue, encode-all, encode-list, encode-input, encode-output, encode-transaction, encode-block, All, Few, Id, Input-within, Output-within, Transaction-within, Block-within}
 use Rattle.blockform.specs.Places.{list-at, end-of, counted-at, counted-end, id-at, input-at, input-end, output-at, output-end, inputs-end, transaction-at, transaction-end, block-at, read-block}
+use Rattle.blockform.specs.declared.reader.Block.{Block}
+use Rattle.blockform.specs.Readers.{block-of}
 use Rattle.blockform.specs.Laws.{Accepted, Read-is-encoded, Encoded-is-read, One-block}
-use Rattle.blockform.proofs.Steps.{chosen, field-ok, then-ok, ok-same, field-yes, count-yes, InputOk, input-ok, input-yes, output-ok, output-yes, Ends, ListOk, TransactionOk, transaction-ok, transaction-ends, BlockOk, block-ok, counted-ok, input-ends, output-ends, length-list}
+use Rattle.blockform.proofs.Steps.{ok-of, is-ok, times-first, chosen, field-ok, then-ok, ok-same, field-yes, count-yes, InputOk, input-ok, input-yes, output-ok, output-yes, Ends, ListOk, TransactionOk, transaction-ok, transaction-ends, BlockOk, block-ok, counted-ok, input-ends, output-ends, length-list}
 
 -- parts one after another
 join : {x y : List ℕ} (a c z : List ℕ) → x ≡ a ++ y → y ≡ c ++ z → x ≡ (a ++ c) ++ z
@@ -331,3 +333,41 @@ encoded-is-read b v a =
 pub one-block : One-block
 one-block v w hv hw e =
     sym (block-complete (encode-block v) v hv refl .2) ∙ ap block-at e ∙ block-complete (encode-block w) w hw refl .2
+
+pub refused : (b : List ℕ) (e : FormFault) → read-block b ≡ Err e → (v : BlockValue) → Accepted b v → ⊥
+refused b e h v a =
+    let p : _≡_ {A = Result BlockValue FormFault} (Err e) (Ok v) = sym h ∙ encoded-is-read b v a in
+    let z : _≡_ {A = ℕ} 0 1 = cc in
+    omega arith
+
+-- how many bytes each takes
+pub input-long : (b : List ℕ) (at : ℕ) → isOk (input b at) ≡ true → input-end b at ≡ at + length (encode-input (input-at b at))
+input-long b at h =
+    let q = ok-of (input b at) h in
+    let o = input-ok b at (q .0) (q .1) in
+    let n = getD b (at + 36) 0 in
+    let w = take n (drop (at + 37) b) in
+    let la = length-drop at b in
+    let l37 = length-drop (at + 37) b in
+    let li : length (id-at b at) ≡ 32 = length-take-le 32 (drop at b) (omega (arith, o .inside)) in
+    let lw : length w ≡ n = length-take-le n (drop (at + 37) b) (omega (arith, o .inside)) in
+    let lc : length (encode (length w)) ≡ 1 = ap length (encode-1 (length w) (omega (arith, o .small))) in
+    simp length-append (omega arith)
+
+pub output-long : (b : List ℕ) (at : ℕ) → output-end at ≡ at + length (encode-output (output-at b at))
+output-long b at = simp length-append (omega (arith, length-le 8 (eight-at b at), length-le 8 (eight-at b (at + 9))))
+
+-- the same of n values
+pub all-long : {X : Type 0} (step : ℕ → Result ℕ FormFault) (value : ℕ → X) (end : ℕ → ℕ) (enc : X → List ℕ) → Ends step end → ((at : ℕ) → isOk (step at) ≡ true → end at ≡ at + length (enc (value at))) → (n at : ℕ) → isOk (times n step at) ≡ true → end-of n end at ≡ at + length (encode-all enc (list-at n value end at))
+all-long step value end enc d k zero at h = omega arith
+all-long step value end enc d k (suc n) at h =
+    let f = times-first step end d (suc n) at (omega arith) h in
+    let m : suc n - 1 ≡ n = omega arith in
+    let r = all-long step value end enc d k n (end at) (ap (λ j. isOk (times j step (end at))) (sym m) ∙ f .1) in
+    let e = k at (is-ok (step at) (end at) (f .0)) in
+    simp length-append (omega arith)
+
+-- what is read is accepted, and what is refused is not
+pub accepts : (b : List ℕ) (r : Result Block FormFault) → Bytes b → Cases r (λ k. read-block b ≡ Ok (block-of k)) (λ e. read-block b ≡ Err e) → Cases r (λ k. Accepted b (block-of k)) (λ _. (v : BlockValue) → Accepted b v → ⊥)
+accepts b (Ok k) y h = read-is-encoded b (block-of k) y h
+accepts b (Err e) y h = refused b e h

@@ -7,9 +7,12 @@ use native.Mathlib.Omega.{arith}
 use lib.ListN.{length, getD, drop}
 use borrow.Author.Tests.{lt-ltb, le-ltb}
 use Rattle.std.proofs.shelf.Ways.{tells}
+use denote.Ref.{RefT}
+use Rattle.std.specs.Results.{Cases}
 use Rattle.std.specs.declared.result.Result.{Result}
 use Rattle.std.specs.declared.result.Result.the-variants.{Ok, Err}
 use Rattle.compact.specs.declared.SizeFault.{SizeFault}
+use Rattle.compact.specs.declared.SizeFault.the-variants.{LongForm}
 use Rattle.compact.specs.Compact.{le, encode, two-at, four-at, eight-at, span, value, least, read-size, Bytes, Written-is-read, Read-is-written, One-encoding, Small-is-a-byte, Nothing-is-cut, Examples}
 use Rattle.compact.proofs.Parts.{unle, from, whole, le-at, unle-le, unle-lt, two-is, four-is, eight-is, encode-1, encode-2, encode-4, encode-8}
 
@@ -104,3 +107,26 @@ refused s e h n t l w =
     let p : _≡_ {A = Result (ℕ × List ℕ) SizeFault} (Err e) (Ok (n, t)) = sym h ∙ ap read-size w ∙ a in
     let z : _≡_ {A = ℕ} 0 1 = cc in
     omega arith
+
+-- what a read answers: the number and the rest, or the fault; and the same by the encoding
+abbrev pub Answer : List ℕ → Result (ℕ × RefT (List ℕ)) SizeFault → Type 0
+Answer s r = Cases r (λ p. read-size s ≡ Ok (p .0, p .1 .now)) (λ e. read-size s ≡ Err e)
+
+abbrev pub Reads : List ℕ → Result (ℕ × RefT (List ℕ)) SizeFault → Type 0
+Reads s r = Cases r (λ p. s ≡ encode (p .0) ++ p .1 .now) (λ _. (n : ℕ) (rest : List ℕ) → n < 2 ^ 64 → s ≡ encode n ++ rest → ⊥)
+
+pub reads : (s : List ℕ) (r : Result (ℕ × RefT (List ℕ)) SizeFault) → Bytes s → Answer s r → Reads s r
+reads s (Ok p) b h = sym (read-is-written s (p .0) (p .1 .now) b h)
+reads s (Err e) b h = refused s e h
+
+-- a form of a first byte and k others
+pub answers : (s : List ℕ) (k low n : ℕ) (rest : List ℕ) (r : Result (ℕ × RefT (List ℕ)) SizeFault) → Marked s k low n → k ≤ length s → rest ≡ drop k s → Cases r (λ p. (low ≤ n) × (p .0 ≡ n) × (p .1 .now ≡ rest)) (λ e. (n < low) × (e ≡ LongForm)) → Answer s r
+unfolding read-size
+answers s k low n rest (Ok p) m l d h =
+    granted s k n (m .long) (m .is) l (omega (arith, m .least-is, h .0))
+    ∙ ap (λ x. Ok (x, drop k s)) (sym (h .1)) ∙ ap (λ x. Ok (p .0, x)) (sym (h .2 ∙ d))
+answers s k low n rest (Err e) m l d h =
+    let a = m .long in
+    let v = m .is in
+    let w = m .least-is in
+    rw (le-ltb (length s) (span s) (omega arith), lt-ltb (value s) (least s) (omega (arith, h .0))) (ap Err (sym (h .1)))
