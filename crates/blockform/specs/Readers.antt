@@ -50,13 +50,12 @@ next-item r = r .place
 unfoldable pub next-transaction : Transactions → ℕ
 next-transaction r = r .place
 
--- t is the transaction v that begins at an offset: its parts, and where its inputs and its outputs begin
-pub record Hands (t : Transaction) (v : TransactionValue) (at : ℕ) : Type 0 where
+-- t is the transaction v: its parts, and where its inputs and its outputs begin
+pub record Hands (t : Transaction) (v : TransactionValue) : Type 0 where
   pub id : t .id .now ≡ v .id
-  pub offset : t .offset ≡ at
   pub inputs : items-of (t .inputs) ≡ map spends (v .inputs)
-  pub first-input : next-item (t .inputs) ≡ at + 33
+  pub first-input : next-item (t .inputs) ≡ t .offset + 33
   pub good-inputs : Items-good (t .inputs)
   pub outputs : items-of (t .outputs) ≡ map makes (v .outputs)
-  pub first-output : next-item (t .outputs) ≡ at + 33 + length (encode-all encode-input (v .inputs)) + 1
+  pub first-output : next-item (t .outputs) ≡ t .offset + 33 + length (encode-all encode-input (v .inputs)) + 1
   pub good-outputs : Items-good (t .outputs)

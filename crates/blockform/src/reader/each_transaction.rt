@@ -26,7 +26,7 @@ impl<'a> Transactions<'a> {
     pub fn next(&mut self) -> Option<Transaction<'a>>
         requires { ⌜ Transactions-good (now self) ⌝ }
         ensures good { λ _. ⌜ Transactions-good (now (self .exit)) ⌝ }
-        ensures hands { λ r. ⌜ Cases r ((transactions-of (now (self .entry)) ≡ []) × (transactions-of (now (self .exit)) ≡ [])) (λ t. (v : TransactionValue) × Hands t v (next-transaction (now (self .entry))) × (transactions-of (now (self .entry)) ≡ v ∷ transactions-of (now (self .exit))) × (next-transaction (now (self .exit)) ≡ next-transaction (now (self .entry)) + length (encode-transaction v))) ⌝ }
+        ensures hands { λ r. ⌜ Cases r ((transactions-of (now (self .entry)) ≡ []) × (transactions-of (now (self .exit)) ≡ [])) (λ t. (v : TransactionValue) × Hands t v × (transactions-of (now (self .entry)) ≡ v ∷ transactions-of (now (self .exit))) × (next-transaction (now (self .exit)) ≡ next-transaction (now (self .entry)) + length (encode-transaction v)) × (t .offset ≡ next-transaction (now (self .entry)))) ⌝ }
     {
         if self.left == 0 {
             return None;

@@ -62,7 +62,6 @@ returns c =
         transaction-at b at,
         record {
           id = c .id-at-id .ensures;
-          offset = refl;
           first-input = omega arith;
           first-output = ap (λ k. k + 1) (mid ∙ inputs-long b (r .left) at f);
           inputs = map-list spends (input-at b) (input-end b) (getD b (at + 32) 0) (at + 32 + 1);
@@ -72,5 +71,6 @@ returns c =
         },
         list-taken (transaction-at b) (transaction-end b) (r .left) at _ _ (omega arith) refl end,
         end ∙ transaction-long b (r .left) at f,
+        refl,
       );
     }
