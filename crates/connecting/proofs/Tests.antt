@@ -17,7 +17,7 @@ use Rattle.std.proofs.shelf.Lists.{length-map}
 use Rattle.blockform.specs.declared.reader.Transaction.{Transaction}
 use Rattle.blockform.specs.Readers.{items-of, Hands}
 use Rattle.blockform.specs.Value.{InputValue, OutputValue, TransactionValue, Piece, spends, makes}
-use Rattle.connecting.specs.Parts.{inputs-in, outputs-in}
+use Rattle.connecting.specs.Parts.{inputs-in, outputs-in, null-piece}
 use Rattle.connecting.specs.Rules.{equal, is-null, is-coinbase, same-id}
 
 -- a flag that says whether P holds, and an order that is equal exactly where P holds
@@ -45,8 +45,9 @@ outputs-all [] = refl
 outputs-all (y ∷ ys) = ap (λ t. y ∷ t) (outputs-all ys)
 
 -- the one piece of a transaction
-pub one-piece : (ps qs : List Piece) (p : Piece) → ps ≡ p ∷ qs → length ps ≡ 1 → is-coinbase (inputs-in (p ∷ [])) ≡ is-coinbase (inputs-in ps)
-one-piece ps [] p e l = ap (λ x. is-coinbase (inputs-in x)) (sym e)
+pub one-piece : (ps qs : List Piece) (p : Piece) → ps ≡ p ∷ qs → length ps ≡ 1 → null-piece p ≡ is-coinbase (inputs-in ps)
+one-piece ps [] (spends x) e l = ap (λ x. is-coinbase (inputs-in x)) (sym e)
+one-piece ps [] (makes y) e l = ap (λ x. is-coinbase (inputs-in x)) (sym e)
 one-piece ps (q ∷ qs) p e l = absurd (omega (arith, ap length e))
 
 -- a transaction that was handed out, by what its readers still have

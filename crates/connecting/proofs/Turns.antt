@@ -5,7 +5,8 @@ use mathlib.Core.List.{List, [], _∷_}
 use mathlib.Core.Logic.{_⊎_, inl, inr}
 use Prim.Native.Nat.{ℕ, _+_, _<_, _≤_}
 use native.Mathlib.Omega.{arith}
-use borrow.Author.Tests.{lt-ltb}
+use borrow.Author.Tests.{lt-ltb, eq-eqb}
+use Rattle.std.proofs.shelf.Tests.{ne-eqb}
 use lib.Dec.{ltb, leb}
 use lib.ListN.{length}
 use Rattle.std.proofs.shelf.Ways.{leb-tells}
@@ -25,12 +26,12 @@ use Rattle.coinsview.specs.Meaning.{Coins, coin-at, with-coin, without, put-by,
 use Rattle.undo.specs.declared.Record.{Record}
 use Rattle.undo.specs.declared.Record.the-variants.{Made, Spent}
 use Rattle.undo.specs.Entries.{pushed}
-use Rattle.blockform.specs.Value.{OutputValue, Piece, spends}
+use Rattle.blockform.specs.Value.{OutputValue, Piece, spends, makes}
 use Rattle.connecting.specs.declared.fault.InputFault.{InputFault}
 use Rattle.connecting.specs.declared.fault.TransactionFault.{TransactionFault}
 use Rattle.connecting.specs.declared.fault.TransactionFault.the-variants.{Item}
-use Rattle.connecting.specs.Parts.{inputs-in}
-use Rattle.connecting.specs.Rules.{then, at-item, of-view, coin-by, coin-of, spend, spend-all, make}
+use Rattle.connecting.specs.Parts.{inputs-in, outputs-in}
+use Rattle.connecting.specs.Rules.{then, at-item, of-view, burns, worth, coins-made, value-burned, coin-by, coin-of, spend, spend-all, make, make-all}
 use Rattle.connecting.specs.Undoing.{back}
 use Rattle.connecting.proofs.Conserved.{no-err, put-none, view-ok, spend-there}
 use Rattle.connecting.proofs.Undone.{spent-back, made-back}
@@ -103,3 +104,46 @@ output-made room h k y b c m n es fs r o u coin value map place ok after less =
       ap (λ x. back room x n true) noted ∙ ap (λ x. back room (Made k c ∷ es) x true) put ∙ made-back room es k c m none,
       omega (arith, ap length noted),
     )
+
+-- the way back, from where the capacity, the entries and the coins are the same
+pub back-same : (room seat : ℕ) (es fs : List Record) (m n : Coins) → seat ≡ room → es ≡ fs → m ≡ n → back seat es m true ≡ back room fs n true
+back-same room seat es fs m n r e c = ap (λ x. back x es m true) r ∙ ap (λ x. back room x m true) e ∙ ap (λ x. back room fs x true) c
+
+pub back-on : (room seat : ℕ) (es fs : List Record) (m n : Coins) → seat ≡ room → back seat es m true ≡ back seat fs n true → back room es m true ≡ back room fs n true
+back-on room seat es fs m n r e = subst (λ x. back x es m true ≡ back x fs n true) r e
+
+-- the next output of a transaction
+module _ (room h i : ℕ) (id : List ℕ) (b : Bool) (y : OutputValue) (ps qs : List Piece) (m : Coins) (hands : ps ≡ makes y ∷ qs) where
+  pub output-sums : (worth (outputs-in ps) ≡ y .value + worth (outputs-in qs)) × (length ps ≡ length qs + 1)
+  output-sums = (ap (λ x. worth (outputs-in x)) hands, omega (arith, ap length hands))
+
+  one : (t : Bool) → burns y ≡ t → make-all room h id b i (outputs-in ps) m ≡ then (cond t (Ok m) (make room h id i (coin-of y h b) m)) (λ n. make-all room h id b (i + 1) (outputs-in qs) n)
+  one t e = ap (λ x. make-all room h id b i (outputs-in x) m) hands ∙ ap (λ x. then (cond x (Ok m) (make room h id i (coin-of y h b) m)) (λ n. make-all room h id b (i + 1) (outputs-in qs) n)) e
+
+  -- it burns
+  pub output-burned : y .lock .kind ≡ 0 → (make-all room h id b i (outputs-in ps) m ≡ make-all room h id b (i + 1) (outputs-in qs) m) × (coins-made (outputs-in ps) ≡ coins-made (outputs-in qs)) × (value-burned (outputs-in ps) ≡ y .value + value-burned (outputs-in qs))
+  output-burned k =
+      let e : burns y ≡ true = eq-eqb _ 0 k in
+      (
+        one true e,
+        ap (λ x. coins-made (outputs-in x)) hands ∙ ap (λ x. cond x (coins-made (outputs-in qs)) (1 + coins-made (outputs-in qs))) e,
+        ap (λ x. value-burned (outputs-in x)) hands ∙ ap (λ x. cond x (y .value + value-burned (outputs-in qs)) (value-burned (outputs-in qs))) e,
+      )
+
+  module _ (seat : ℕ) (fixed : seat ≡ room) (k : y .lock .kind ≡ 0 → ⊥) where
+    e : burns y ≡ false
+    e = ne-eqb _ 0 k
+
+    pub output-counts : (coins-made (outputs-in ps) ≡ coins-made (outputs-in qs) + 1) × (value-burned (outputs-in ps) ≡ value-burned (outputs-in qs))
+    output-counts = (
+      omega (arith, ap (λ x. coins-made (outputs-in x)) hands ∙ ap (λ x. cond x (coins-made (outputs-in qs)) (1 + coins-made (outputs-in qs))) e),
+      ap (λ x. value-burned (outputs-in x)) hands ∙ ap (λ x. cond x (y .value + value-burned (outputs-in qs)) (value-burned (outputs-in qs))) e,
+    )
+
+    -- it makes a coin
+    pub output-put : (n : Coins) → make seat h id i (coin-of y h b) m ≡ Ok n → make-all room h id b i (outputs-in ps) m ≡ make-all room h id b (i + 1) (outputs-in qs) n
+    output-put n q = one false e ∙ ap (λ x. then x (λ z. make-all room h id b (i + 1) (outputs-in qs) z)) (ap (λ x. make x h id i (coin-of y h b) m) (sym fixed) ∙ q)
+
+    -- it is refused
+    pub output-refused : (f : TransactionFault) → make seat h id i (coin-of y h b) m ≡ Err f → make-all room h id b i (outputs-in ps) m ≡ Err f
+    output-refused f q = one false e ∙ ap (λ x. then x (λ z. make-all room h id b (i + 1) (outputs-in qs) z)) (ap (λ x. make x h id i (coin-of y h b) m) (sym fixed) ∙ q)

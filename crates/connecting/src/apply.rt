@@ -8,9 +8,11 @@ ghost use Rattle.std.specs.Vec.{made as madeBy};
 ghost use Rattle.std.specs.declared.result.Result.the-variants.{Ok, Err};
 ghost use Rattle.undo.specs.Entries.{entries};
 ghost use Rattle.coinsview.specs.Meaning.{coin-at, with-coin, without, put-answer};
-ghost use Rattle.blockform.specs.Readers.{items-of, Items-good};
+ghost use Rattle.blockform.specs.Value.{All};
+ghost use Rattle.blockform.specs.Readers.{items-of, transactions-of, block-of, Items-good, Transactions-good, Block-good};
+ghost use Rattle.connecting.specs.Applied.{setting, value-of, Moneyed, spending-needs};
 ghost use Rattle.connecting.specs.Parts.{inputs-in, outputs-in};
-ghost use Rattle.connecting.specs.Rules.{of-view, worth as worthOf, coins-made, value-burned, coin-of, spend as spendBy, spend-all, make as makeBy, make-all};
+ghost use Rattle.connecting.specs.Rules.{of-view, worth as worthOf, coins-made, value-burned, others-needs, transactions-needs, coin-of, spend as spendBy, spend-all, make as makeBy, make-all, none, spending, spending-all, effect};
 ghost use Rattle.connecting.specs.Undoing.{back};
 use crate::fault::BlockFault;
 use crate::fault::InputFault;
@@ -218,8 +220,17 @@ fn apply_spending<V: CoinsView, C: SpendCondition>(
     tx: &Transaction<'_>,
     site: Site,
 ) -> Result<Sums, TransactionFault>
-    requires { ⌜ V·CoinsView .ok (now view) ⌝ }
-    ensures { λ _. ⌜ V·CoinsView .ok (now (view .exit)) ⌝ }
+    requires well { ⌜ V·CoinsView .ok (now view) ⌝ }
+    requires good { ⌜ Items-good (now tx .inputs) × Items-good (now tx .outputs) ⌝ }
+    requires whole { ⌜ length (inputs-in (items-of (now tx .inputs))) ≡ length (items-of (now tx .inputs)) ⌝ }
+    requires money { ⌜ Moneyed (value-of (now tx)) ⌝ }
+    requires room { ⌜ length (entries (now chain)) + spending-needs (value-of (now tx)) ≤ 512 ⌝ }
+    ensures well { λ _. ⌜ V·CoinsView .ok (now (view .exit)) ⌝ }
+    ensures fixed { λ _. ⌜ V·CoinsView .most (now (view .exit)) ≡ V·CoinsView .most (now (view .entry)) ⌝ }
+    ensures value { λ r. ⌜ Cases r (λ a. spending (setting (V·CoinsView .most (now (view .entry))) (C·SpendCondition .opens (now (condition .entry))) site) (site .height) (value-of (now (tx .entry))) (V·CoinsView .coins (now (view .entry))) ≡ Ok (V·CoinsView .coins (now (view .exit)), a)) (λ f. spending (setting (V·CoinsView .most (now (view .entry))) (C·SpendCondition .opens (now (condition .entry))) site) (site .height) (value-of (now (tx .entry))) (V·CoinsView .coins (now (view .entry))) ≡ Err f) ⌝ }
+    ensures back { λ _. ⌜ back (V·CoinsView .most (now (view .entry))) (entries (now (chain .exit))) (V·CoinsView .coins (now (view .exit))) true ≡ back (V·CoinsView .most (now (view .entry))) (entries (now (chain .entry))) (V·CoinsView .coins (now (view .entry))) true ⌝ }
+    ensures long { λ r. ⌜ madeBy r (λ _. length (entries (now (chain .exit))) ≡ length (entries (now (chain .entry))) + spending-needs (value-of (now (tx .entry)))) ⌝ }
+    ensures few { λ r. ⌜ madeBy r (λ a. (a .made ≤ 64) × (a .spent ≤ 64) × (a .fees ≤ 64 * 2100000000000000) × (a .burned ≤ 2100000000000000)) ⌝ }
 {
     let paid = spend_inputs(view, condition, chain, tx.inputs, site)?;
     let worth = outputs_worth(tx.outputs);
@@ -243,8 +254,16 @@ fn apply_others<V: CoinsView, C: SpendCondition>(
     mut others: Transactions<'_>,
     site: Site,
 ) -> Result<Sums, BlockFault>
-    requires { ⌜ V·CoinsView .ok (now view) ⌝ }
-    ensures { λ _. ⌜ V·CoinsView .ok (now (view .exit)) ⌝ }
+    requires well { ⌜ V·CoinsView .ok (now view) ⌝ }
+    requires good { ⌜ Transactions-good others ⌝ }
+    requires money { ⌜ All Moneyed (transactions-of others) ⌝ }
+    requires room { ⌜ length (entries (now chain)) + others-needs (transactions-of others) ≤ 512 ⌝ }
+    ensures well { λ _. ⌜ V·CoinsView .ok (now (view .exit)) ⌝ }
+    ensures fixed { λ _. ⌜ V·CoinsView .most (now (view .exit)) ≡ V·CoinsView .most (now (view .entry)) ⌝ }
+    ensures value { λ r. ⌜ Cases r (λ a. spending-all (setting (V·CoinsView .most (now (view .entry))) (C·SpendCondition .opens (now (condition .entry))) site) (site .height) 1 (transactions-of (others .entry)) (V·CoinsView .coins (now (view .entry))) none ≡ Ok (V·CoinsView .coins (now (view .exit)), a)) (λ f. spending-all (setting (V·CoinsView .most (now (view .entry))) (C·SpendCondition .opens (now (condition .entry))) site) (site .height) 1 (transactions-of (others .entry)) (V·CoinsView .coins (now (view .entry))) none ≡ Err f) ⌝ }
+    ensures back { λ _. ⌜ back (V·CoinsView .most (now (view .entry))) (entries (now (chain .exit))) (V·CoinsView .coins (now (view .exit))) true ≡ back (V·CoinsView .most (now (view .entry))) (entries (now (chain .entry))) (V·CoinsView .coins (now (view .entry))) true ⌝ }
+    ensures long { λ r. ⌜ madeBy r (λ _. length (entries (now (chain .exit))) ≡ length (entries (now (chain .entry))) + others-needs (transactions-of (others .entry))) ⌝ }
+    ensures few { λ r. ⌜ madeBy r (λ a. (a .made ≤ 4096) × (a .spent ≤ 4096) × (a .fees ≤ 4096 * 2100000000000000) × (a .burned ≤ 64 * 2100000000000000)) ⌝ }
 {
     let mut sums = Sums {
         made: 0,
@@ -272,8 +291,15 @@ pub fn apply_block<V: CoinsView, C: SpendCondition>(
     block: &Block<'_>,
     site: Site,
 ) -> Result<Sums, BlockFault>
-    requires { ⌜ V·CoinsView .ok (now view) ⌝ }
-    ensures { λ _. ⌜ V·CoinsView .ok (now (view .exit)) ⌝ }
+    requires well { ⌜ V·CoinsView .ok (now view) ⌝ }
+    requires good { ⌜ Block-good (now block) ⌝ }
+    requires money { ⌜ All Moneyed (block-of (now block) .transactions) ⌝ }
+    requires room { ⌜ length (entries (now chain)) + transactions-needs (block-of (now block) .transactions) ≤ 512 ⌝ }
+    ensures well { λ _. ⌜ V·CoinsView .ok (now (view .exit)) ⌝ }
+    ensures fixed { λ _. ⌜ V·CoinsView .most (now (view .exit)) ≡ V·CoinsView .most (now (view .entry)) ⌝ }
+    ensures value { λ r. ⌜ Cases r (λ a. effect (setting (V·CoinsView .most (now (view .entry))) (C·SpendCondition .opens (now (condition .entry))) site) (site .height) (block-of (now (block .entry)) .transactions) (V·CoinsView .coins (now (view .entry))) ≡ Ok (V·CoinsView .coins (now (view .exit)), a)) (λ f. effect (setting (V·CoinsView .most (now (view .entry))) (C·SpendCondition .opens (now (condition .entry))) site) (site .height) (block-of (now (block .entry)) .transactions) (V·CoinsView .coins (now (view .entry))) ≡ Err f) ⌝ }
+    ensures back { λ _. ⌜ back (V·CoinsView .most (now (view .entry))) (entries (now (chain .exit))) (V·CoinsView .coins (now (view .exit))) true ≡ back (V·CoinsView .most (now (view .entry))) (entries (now (chain .entry))) (V·CoinsView .coins (now (view .entry))) true ⌝ }
+    ensures long { λ r. ⌜ madeBy r (λ _. length (entries (now (chain .exit))) ≡ length (entries (now (chain .entry))) + transactions-needs (block-of (now (block .entry)) .transactions)) ⌝ }
 {
     let mut others = block.transactions();
     let Some(first) = others.next() else {
