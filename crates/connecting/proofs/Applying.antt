@@ -84,10 +84,6 @@ pub at-placed : {X : Type 0} (t : ℕ) (r : Result X TransactionFault) (o : Resu
 at-placed t (Ok y) o P x h e p = subst P (ok-same {F = BlockFault} y x (sym h ∙ e)) p
 at-placed t (Err f) o P x h e p = no-err _ x (sym h ∙ e)
 
-pub cases-placed : {X : Type 0} (t : ℕ) (r : Result X TransactionFault) (o : Result X BlockFault) (P : X → Type 0) (Q : TransactionFault → Type 0) (x : X) → Cases r P Q → Cases r (λ y. o ≡ Ok y) (λ f. o ≡ Err (Of t f)) → o ≡ Ok x → P x
-cases-placed t (Ok y) o P Q x p h e = subst P (ok-same {F = BlockFault} y x (sym h ∙ e)) p
-cases-placed t (Err f) o P Q x p h e = no-err _ x (sym h ∙ e)
-
 -- the next transaction after the coinbase
 module _ (s : Setting) (h t : ℕ) (x : TransactionValue) (ts us : List TransactionValue) (m n : Coins) (a : Sums) (is : ts ≡ x ∷ us) (o : Result Sums BlockFault) where
   pub others-applied : (r : Result Sums TransactionFault) (b : Sums) → Cases r (λ c. spending s h x m ≡ Ok (n, c)) (λ f. spending s h x m ≡ Err f) → Cases r (λ c. o ≡ Ok c) (λ f. o ≡ Err (Of t f)) → o ≡ Ok b → spending-all s h t ts m a ≡ spending-all s h (t + 1) us n (added a b)
@@ -114,11 +110,8 @@ module _ (s : Setting) (h : ℕ) (x : TransactionValue) (ts us : List Transactio
   abbrev others : Coins → Result (Coins × Sums) BlockFault
   others n = then (spending-all s h 1 us n none) claim
 
-  pub effect-unmade : {X : Type 0} (r : Result X TransactionFault) (o : Result X BlockFault) (P : X → Type 0) (f : BlockFault) → Cases r P (λ g. make-all (s .room) h (x .id) true 0 (x .outputs) m ≡ Err g) → Cases r (λ y. o ≡ Ok y) (λ g. o ≡ Err (Of 0 g)) → o ≡ Err f → effect s h ts m ≡ Err f
-  effect-unmade (Ok y) o P f q p e = no-err _ y (sym e ∙ p)
-  effect-unmade (Err g) o P f q p e =
-      let z : _≡_ {A = BlockFault} (Of 0 g) f = cc in
-      ap (λ y. effect s h y m) is ∙ ap (λ y. then (at-transaction 0 y) others) q ∙ ap Err z
+  pub effect-unmade : (f : BlockFault) → at-transaction 0 (make-all (s .room) h (x .id) true 0 (x .outputs) m) ≡ Err f → effect s h ts m ≡ Err f
+  effect-unmade f e = ap (λ y. effect s h y m) is ∙ ap (λ y. then y others) e
 
   module _ (n : Coins) (e : make-all (s .room) h (x .id) true 0 (x .outputs) m ≡ Ok n) where
     made-first : effect s h ts m ≡ others n

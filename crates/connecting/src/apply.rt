@@ -12,7 +12,7 @@ ghost use Rattle.blockform.specs.Value.{All};
 ghost use Rattle.blockform.specs.Readers.{items-of, transactions-of, block-of, Items-good, Transactions-good, Block-good};
 ghost use Rattle.connecting.specs.Applied.{setting, value-of, Moneyed, spending-needs};
 ghost use Rattle.connecting.specs.Parts.{inputs-in, outputs-in};
-ghost use Rattle.connecting.specs.Rules.{of-view, worth as worthOf, coins-made, value-burned, others-needs, transactions-needs, coin-of, spend as spendBy, spend-all, make as makeBy, make-all, none, spending, spending-all, effect};
+ghost use Rattle.connecting.specs.Rules.{at-transaction, of-view, worth as worthOf, coins-made, value-burned, others-needs, transactions-needs, coin-of, spend as spendBy, spend-all, make as makeBy, make-all, none, spending, spending-all, effect};
 ghost use Rattle.connecting.specs.Undoing.{back};
 use crate::fault::BlockFault;
 use crate::fault::InputFault;
@@ -283,6 +283,27 @@ fn apply_others<V: CoinsView, C: SpendCondition>(
     Ok(sums)
 }
 
+// Applies a coinbase: it spends nothing. Answers how many coins it made and what it burned.
+fn apply_coinbase<V: CoinsView>(
+    view: &mut V,
+    chain: &mut Undo,
+    tx: &Transaction<'_>,
+    site: Site,
+) -> Result<(u64, u64), BlockFault>
+    requires well { ⌜ V·CoinsView .ok (now view) ⌝ }
+    requires good { ⌜ Items-good (now tx .outputs) ⌝ }
+    requires money { ⌜ Moneyed (value-of (now tx)) ⌝ }
+    requires room { ⌜ length (entries (now chain)) + coins-made (value-of (now tx) .outputs) ≤ 512 ⌝ }
+    ensures well { λ _. ⌜ V·CoinsView .ok (now (view .exit)) ⌝ }
+    ensures fixed { λ _. ⌜ V·CoinsView .most (now (view .exit)) ≡ V·CoinsView .most (now (view .entry)) ⌝ }
+    ensures value { λ r. ⌜ Cases r (λ p. (make-all (V·CoinsView .most (now (view .entry))) (site .height) (value-of (now (tx .entry)) .id) true 0 (value-of (now (tx .entry)) .outputs) (V·CoinsView .coins (now (view .entry))) ≡ Ok (V·CoinsView .coins (now (view .exit)))) × (p .0 ≡ coins-made (value-of (now (tx .entry)) .outputs)) × (p .1 ≡ value-burned (value-of (now (tx .entry)) .outputs))) (λ f. at-transaction 0 (make-all (V·CoinsView .most (now (view .entry))) (site .height) (value-of (now (tx .entry)) .id) true 0 (value-of (now (tx .entry)) .outputs) (V·CoinsView .coins (now (view .entry)))) ≡ Err f) ⌝ }
+    ensures back { λ _. ⌜ back (V·CoinsView .most (now (view .entry))) (entries (now (chain .exit))) (V·CoinsView .coins (now (view .exit))) true ≡ back (V·CoinsView .most (now (view .entry))) (entries (now (chain .entry))) (V·CoinsView .coins (now (view .entry))) true ⌝ }
+    ensures long { λ r. ⌜ madeBy r (λ _. length (entries (now (chain .exit))) ≡ length (entries (now (chain .entry))) + coins-made (value-of (now (tx .entry)) .outputs)) ⌝ }
+    ensures few { λ r. ⌜ madeBy r (λ p. (p .0 ≤ 64) × (p .1 ≤ 2100000000000000)) ⌝ }
+{
+    at_transaction(make_outputs(view, chain, tx, site, true), 0)
+}
+
 // Applies a block whose checks it has passed. On a refusal the coins and the undo entries are left as far as it came.
 pub fn apply_block<V: CoinsView, C: SpendCondition>(
     view: &mut V,
@@ -306,7 +327,7 @@ pub fn apply_block<V: CoinsView, C: SpendCondition>(
         return Err(BlockFault::NoCoinbase);
     };
     let claimed = outputs_worth(first.outputs);
-    let (made, burned) = at_transaction(make_outputs(view, chain, &first, site, true), 0)?;
+    let (made, burned) = apply_coinbase(view, chain, &first, site)?;
     let sums = apply_others(view, condition, chain, others, site)?;
     let due = subsidy(site.halving, site.height) + sums.fees;
     if claimed > due {
