@@ -11,7 +11,7 @@ use lib.ListN.{length, getD, take, drop, length-drop, length-append, take-append
 use lib.Seq.{drop-drop, getD-drop, length-take-le, take-at, drop-at}
 use Rattle.std.proofs.shelf.Ways.{tells}
 use Rattle.std.proofs.shelf.Lists.{drop-more}
-use Rattle.std.specs.Results.{isOk}
+use Rattle.std.specs.Results.{isOk, Cases}
 use Rattle.std.specs.declared.result.Result.{Result}
 use Rattle.std.specs.declared.result.Result.the-variants.{Ok, Err}
 use Rattle.compact.specs.Compact.{le, encode, four-at, eight-at, Bytes}
@@ -21,8 +21,10 @@ use Rattle.blockform.specs.declared.fault.FormFault.the-variants.{Tail, OverSi
 use Rattle.blockform.specs.Form.{then, times, field, count, counted, input, output, transaction, ended, block}
 use Rattle.blockform.specs.Value.{InputValue, OutputValue, TransactionValue, BlockValue, encode-all, encode-list, encode-input, encode-output, encode-transaction, encode-block, All, Few, Id, Input-within, Output-within, Transaction-within, Block-within}
 use Rattle.blockform.specs.Places.{list-at, end-of, counted-at, counted-end, id-at, input-at, input-end, output-at, output-end, inputs-end, transaction-at, transaction-end, block-at, read-block}
+use Rattle.blockform.specs.declared.reader.Block.{Block}
+use Rattle.blockform.specs.Readers.{block-of}
 use Rattle.blockform.specs.Laws.{Accepted, Read-is-encoded, Encoded-is-read, One-block}
-use Rattle.blockform.proofs.Steps.{chosen, field-ok, then-ok, ok-same, field-yes, count-yes, InputOk, input-ok, input-yes, output-ok, output-yes, Ends, ListOk, TransactionOk, transaction-ok, transaction-ends, BlockOk, block-ok, counted-ok, input-ends, output-ends, length-list}
+use Rattle.blockform.proofs.Steps.{ok-of, is-ok, times-first, chosen, field-ok, then-ok, ok-same, field-yes, count-yes, InputOk, input-ok, input-yes, output-ok, output-yes, Ends, ListOk, TransactionOk, transaction-ok, transaction-ends, BlockOk, block-ok, counted-ok, input-ends, output-ends, length-list}
 
 -- parts one after another
 join : {x y : List ℕ} (a c z : List ℕ) → x ≡ a ++ y → y ≡ c ++ z → x ≡ (a ++ c) ++ z
@@ -104,8 +106,7 @@ input-sound b at e y h =
     let p1 = field-sound 32 b at in
     let p2 = number-sound 4 b (at + 32) (four-at b (at + 32)) y (omega (arith, o .inside)) (four-is b (at + 32)) ∙ ap (λ k. le 4 (four-at b (at + 32)) ++ drop k b) e36 in
     let p3 = byte-sound b (at + 36) (length w) (omega (arith, o .inside)) lw (omega (arith, o .small)) ∙ ap (λ k. encode (length w) ++ drop k b) e37 in
-    let p4 = field-sound n b (at + 37) ∙ ap (λ k. w ++ drop k b) (sym (o .end)) in
-    (
+    let p4 = field-sound n b (at + 37) ∙ ap (λ k. w ++ drop k b) (sym (o .end)) in (
       (li, fit, omega (arith, o .small)),
       join (id-at b at) (i ++ (encode (length w) ++ w)) z p1 (join i (encode (length w) ++ w) z p2 (join (encode (length w)) w z p3 p4)),
       o .end,
@@ -203,24 +204,24 @@ pub list-codec : {X : Type 0} (b : List ℕ) (step : ℕ → Result ℕ FormFaul
 list-codec b step value end enc P k d =
     record {
       sound = λ at e y h. let o = counted-ok step end d b at e h in
-        let n = getD b at 0 in
-        let xs = list-at n value end (at + 1) in
-        let ll : length xs ≡ n = length-list value end n (at + 1) in
-        let r = all-sound b step value end enc P k y n (at + 1) e (o .steps) in
-        let p = byte-sound b at (length xs) (o .inside) ll (omega (arith, o .few)) in
-        ((omega (arith, o .few), r .0), join (encode (length xs)) (encode-all enc xs) (drop e b) p (r .1), o .is);
+          let n = getD b at 0 in
+          let xs = list-at n value end (at + 1) in
+          let ll : length xs ≡ n = length-list value end n (at + 1) in
+          let r = all-sound b step value end enc P k y n (at + 1) e (o .steps) in
+          let p = byte-sound b at (length xs) (o .inside) ll (omega (arith, o .few)) in
+          ((omega (arith, o .few), r .0), join (encode (length xs)) (encode-all enc xs) (drop e b) p (r .1), o .is);
       complete = λ xs at t h l e. let n = length xs in
-        let f = byte-complete b at n (encode-all enc xs ++ t) (omega (arith, h .0)) l (e ∙ append-assoc (encode n) (encode-all enc xs) t) in
-        let g = f .0 in
-        let r = all-complete b step value end enc P k xs (at + 1) t (h .1) (f .1 .inside) (f .1 .rest) in
-        let c = count-yes 64 b at n (lit< tt) (omega (arith, f .1 .inside)) (sym g) (h .0) in
-        let In : ℕ → Type 0 = λ m. end-of m end (at + 1) ≤ length b in
-        record {
-          answer = ap (λ z. then z (λ m. times (m .0) step (m .1))) c ∙ r .answer ∙ ap (λ m. Ok (end-of m end (at + 1))) (sym g);
-          is = ap (λ m. list-at m value end (at + 1)) g ∙ r .is;
-          rest = ap (λ m. drop (end-of m end (at + 1)) b) g ∙ r .rest;
-          inside = subst In (sym g) (r .inside);
-        };
+          let f = byte-complete b at n (encode-all enc xs ++ t) (omega (arith, h .0)) l (e ∙ append-assoc (encode n) (encode-all enc xs) t) in
+          let g = f .0 in
+          let r = all-complete b step value end enc P k xs (at + 1) t (h .1) (f .1 .inside) (f .1 .rest) in
+          let c = count-yes 64 b at n (lit< tt) (omega (arith, f .1 .inside)) (sym g) (h .0) in
+          let In : ℕ → Type 0 = λ m. end-of m end (at + 1) ≤ length b in
+          record {
+            answer = ap (λ z. then z (λ m. times (m .0) step (m .1))) c ∙ r .answer ∙ ap (λ m. Ok (end-of m end (at + 1))) (sym g);
+            is = ap (λ m. list-at m value end (at + 1)) g ∙ r .is;
+            rest = ap (λ m. drop (end-of m end (at + 1)) b) g ∙ r .rest;
+            inside = subst In (sym g) (r .inside);
+          };
     }
 
 inputs-codec : (b : List ℕ) → Codec b (counted (input b) b) (counted-at (input-at b) (input-end b) b) (counted-end (input-end b) b) (encode-list encode-input) (Few Input-within)
@@ -241,8 +242,7 @@ transaction-sound b at e y h =
     let o = outputs-codec b .sound (inputs-end b at) e y (ap (λ k. counted (output b) b k) (sym m) ∙ q .2) in
     let v = transaction-at b at in
     let x = encode-list encode-input (v .inputs) in
-    let z = encode-list encode-output (v .outputs) in
-    (
+    let z = encode-list encode-output (v .outputs) in (
       (length-take-le 32 (drop at b) (omega (arith, f .1)), i .0, o .0),
       join (v .id) (x ++ z) (drop e b) (field-sound 32 b at) (join x z (drop e b) (i .1) (ap (λ k. drop k b) m ∙ o .1)),
       o .2,
@@ -283,8 +283,7 @@ block-sound b e y h =
     let v = block-at b in
     let x = encode-list encode-transaction (v .transactions) in
     let last : drop 64 b ≡ x ++ [] = t .1 ∙ ap (λ z. x ++ z) (drop-of-length-le b w) in
-    let whole = join (v .id) (v .previous ++ x) [] (field-sound 32 b 0) (join (v .previous) x [] (field-sound 32 b 32) last) in
-    (
+    let whole = join (v .id) (v .previous ++ x) [] (field-sound 32 b 0) (join (v .previous) x [] (field-sound 32 b 32) last) in (
       (length-take-le 32 (drop 0 b) (omega (arith, f .1)), length-take-le 32 (drop 32 b) (omega (arith, f .0, g .1)), t .0),
       whole ∙ append-nil (encode-block v),
     )
@@ -297,13 +296,12 @@ block-complete b v h e =
     let t = transactions-codec b .complete (v .transactions) 64 [] (h .2) (g .inside) (g .rest ∙ sym (append-nil x)) in
     let k = counted-end (transaction-end b) b 64 in
     let l = length-drop k b in
-    let z : length b ≤ k = omega (arith, ap length (t .rest)) in
-    (
+    let z : length b ≤ k = omega (arith, ap length (t .rest)) in (
       k,
       ap (λ r. then r (λ i. then (field 32 b i) (λ j. then (counted (transaction b) b j) (λ m. ended b m)))) (field-yes 32 b 0 (f .inside))
-      ∙ ap (λ r. then r (λ j. then (counted (transaction b) b j) (λ m. ended b m))) (field-yes 32 b 32 (g .inside))
-      ∙ ap (λ r. then r (λ m. ended b m)) (t .answer)
-      ∙ ap (λ c. cond c (Err (Tail k)) (Ok k)) (le-ltb k (length b) z),
+          ∙ ap (λ r. then r (λ j. then (counted (transaction b) b j) (λ m. ended b m))) (field-yes 32 b 32 (g .inside))
+          ∙ ap (λ r. then r (λ m. ended b m)) (t .answer)
+          ∙ ap (λ c. cond c (Err (Tail k)) (Ok k)) (le-ltb k (length b) z),
       λ j. record { id = f .is j; previous = g .is j; transactions = t .is j },
     )
 
@@ -335,3 +333,41 @@ encoded-is-read b v a =
 pub one-block : One-block
 one-block v w hv hw e =
     sym (block-complete (encode-block v) v hv refl .2) ∙ ap block-at e ∙ block-complete (encode-block w) w hw refl .2
+
+pub refused : (b : List ℕ) (e : FormFault) → read-block b ≡ Err e → (v : BlockValue) → Accepted b v → ⊥
+refused b e h v a =
+    let p : _≡_ {A = Result BlockValue FormFault} (Err e) (Ok v) = sym h ∙ encoded-is-read b v a in
+    let z : _≡_ {A = ℕ} 0 1 = cc in
+    omega arith
+
+-- how many bytes each takes
+pub input-long : (b : List ℕ) (at : ℕ) → isOk (input b at) ≡ true → input-end b at ≡ at + length (encode-input (input-at b at))
+input-long b at h =
+    let q = ok-of (input b at) h in
+    let o = input-ok b at (q .0) (q .1) in
+    let n = getD b (at + 36) 0 in
+    let w = take n (drop (at + 37) b) in
+    let la = length-drop at b in
+    let l37 = length-drop (at + 37) b in
+    let li : length (id-at b at) ≡ 32 = length-take-le 32 (drop at b) (omega (arith, o .inside)) in
+    let lw : length w ≡ n = length-take-le n (drop (at + 37) b) (omega (arith, o .inside)) in
+    let lc : length (encode (length w)) ≡ 1 = ap length (encode-1 (length w) (omega (arith, o .small))) in
+    simp length-append (omega arith)
+
+pub output-long : (b : List ℕ) (at : ℕ) → output-end at ≡ at + length (encode-output (output-at b at))
+output-long b at = simp length-append (omega (arith, length-le 8 (eight-at b at), length-le 8 (eight-at b (at + 9))))
+
+-- the same of n values
+pub all-long : {X : Type 0} (step : ℕ → Result ℕ FormFault) (value : ℕ → X) (end : ℕ → ℕ) (enc : X → List ℕ) → Ends step end → ((at : ℕ) → isOk (step at) ≡ true → end at ≡ at + length (enc (value at))) → (n at : ℕ) → isOk (times n step at) ≡ true → end-of n end at ≡ at + length (encode-all enc (list-at n value end at))
+all-long step value end enc d k zero at h = omega arith
+all-long step value end enc d k (suc n) at h =
+    let f = times-first step end d (suc n) at (omega arith) h in
+    let m : suc n - 1 ≡ n = omega arith in
+    let r = all-long step value end enc d k n (end at) (ap (λ j. isOk (times j step (end at))) (sym m) ∙ f .1) in
+    let e = k at (is-ok (step at) (end at) (f .0)) in
+    simp length-append (omega arith)
+
+-- what is read is accepted, and what is refused is not
+pub accepts : (b : List ℕ) (r : Result Block FormFault) → Bytes b → Cases r (λ k. read-block b ≡ Ok (block-of k)) (λ e. read-block b ≡ Err e) → Cases r (λ k. Accepted b (block-of k)) (λ _. (v : BlockValue) → Accepted b v → ⊥)
+accepts b (Ok k) y h = read-is-encoded b (block-of k) y h
+accepts b (Err e) y h = refused b e h

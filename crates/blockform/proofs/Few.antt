@@ -1,8 +1,7 @@
 -- A reader never has more than 64 to hand out. Assumes nothing.
-use mathlib.Core.Path.{_≡_, refl, ap}
+use mathlib.Core.Path.{_≡_, refl, sym, ap, subst}
 use mathlib.Core.List.{List}
 use Prim.Native.Nat.{ℕ, zero, suc, _≤_}
-use native.Mathlib.Omega.{arith}
 use lib.ListN.{length}
 use Rattle.blockform.specs.declared.reader.Items.{Items}
 use Rattle.blockform.specs.declared.reader.Transactions.{Transactions}
@@ -15,8 +14,8 @@ length-list (suc n) value end at = ap suc (length-list n value end (end at))
 
 pub items-few : (r : Items) → Items-good r → length (items-of r) ≤ 64
 unfolding items-of Items-good
-items-few r g = omega (arith, g .0, length-list (r .left) _ _ (r .place))
+items-few r g = subst (λ n. n ≤ 64) (sym (length-list (r .left) _ _ (r .place))) (g .0)
 
 pub transactions-few : (r : Transactions) → Transactions-good r → length (transactions-of r) ≤ 64
 unfolding transactions-of Transactions-good
-transactions-few r g = omega (arith, g .0, length-list (r .left) _ _ (r .place))
+transactions-few r g = subst (λ n. n ≤ 64) (sym (length-list (r .left) _ _ (r .place))) (g .0)

@@ -322,3 +322,9 @@ inputs-again b n i at from l h e =
       ap (λ k. isOk (times k (input b) (input-end b at))) m ∙ times-first (input b) (input-end b) (input-ends b) (n - i) at (omega arith) h .1,
       ap (λ k. end-of k (input-end b) (input-end b at)) m ∙ sym (ends-first (input-end b) (n - i) at (omega arith)) ∙ e,
     )
+
+pub outputs-yes : (b : List ℕ) (n at : ℕ) → at + 17 * n ≤ length b → times n (output b) at ≡ Ok (at + 17 * n)
+outputs-yes b zero at h = let e : at ≡ at + 17 * 0 = omega arith in ap Ok e
+outputs-yes b (suc n) at h =
+    let e : at + 17 + 17 * n ≡ at + 17 * suc n = omega arith in
+    ap (λ r. then r (λ i. times n (output b) i)) (output-yes b at (omega arith)) ∙ outputs-yes b n (at + 17) (omega arith) ∙ ap Ok e

@@ -2,7 +2,8 @@
 use mathlib.Core.Path.{_≡_}
 use mathlib.Core.Bool.{true}
 use mathlib.Core.List.{List, map}
-use Prim.Native.Nat.{ℕ, _≤_}
+use Prim.Native.Nat.{ℕ, _+_, _≤_}
+use lib.ListN.{length}
 use Rattle.std.specs.Results.{isOk}
 use Rattle.blockform.specs.Form.{times, item, transaction, block}
 use denote.Ref.{now}
@@ -12,7 +13,7 @@ use Rattle.blockform.specs.declared.reader.Items.{Items}
 use Rattle.blockform.specs.declared.reader.Transaction.{Transaction}
 use Rattle.blockform.specs.declared.reader.Transactions.{Transactions}
 use Rattle.blockform.specs.declared.reader.Block.{Block}
-use Rattle.blockform.specs.Value.{InputValue, OutputValue, TransactionValue, BlockValue, Piece, spends, makes}
+use Rattle.blockform.specs.Value.{TransactionValue, BlockValue, Piece, spends, makes, encode-all, encode-input}
 use Rattle.blockform.specs.Places.{list-at, item-at, item-end, transaction-at, transaction-end, block-at}
 
 abbrev pub piece-of : Item → Piece
@@ -42,10 +43,19 @@ Transactions-good r = (r .left ≤ 64) × (isOk (times (r .left) (transaction (r
 unfoldable pub Block-good : Block → Type 0
 Block-good r = isOk (block (r .bytes .now)) ≡ true
 
--- t is the transaction v
+-- the offset in the block of what comes next
+unfoldable pub next-item : Items → ℕ
+next-item r = r .place
+
+unfoldable pub next-transaction : Transactions → ℕ
+next-transaction r = r .place
+
+-- t is the transaction v: its parts, and where its inputs and its outputs begin
 pub record Hands (t : Transaction) (v : TransactionValue) : Type 0 where
   pub id : t .id .now ≡ v .id
   pub inputs : items-of (t .inputs) ≡ map spends (v .inputs)
-  pub outputs : items-of (t .outputs) ≡ map makes (v .outputs)
+  pub first-input : next-item (t .inputs) ≡ t .offset + 33
   pub good-inputs : Items-good (t .inputs)
+  pub outputs : items-of (t .outputs) ≡ map makes (v .outputs)
+  pub first-output : next-item (t .outputs) ≡ t .offset + 33 + length (encode-all encode-input (v .inputs)) + 1
   pub good-outputs : Items-good (t .outputs)

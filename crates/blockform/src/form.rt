@@ -34,7 +34,20 @@ fn count(b: &[u8], at: usize, limit: u8) -> Result<(usize, usize), FormFault>
     }
 }
 
+// Past an input: one test where all of it is there, else its fields one by one.
 fn input(b: &[u8], at: usize) -> Result<usize, FormFault>
+    ensures { λ r. ⌜ r ≡ inputForm (now (b .entry)) at ⌝ }
+{
+    if at < b.len() && b.len() - at >= 37 {
+        let size = b[at + 36] as usize;
+        if size <= 100 && b.len() - at - 37 >= size {
+            return Ok(at + 37 + size);
+        }
+    }
+    input_fields(b, at)
+}
+
+fn input_fields(b: &[u8], at: usize) -> Result<usize, FormFault>
     ensures { λ r. ⌜ r ≡ inputForm (now (b .entry)) at ⌝ }
 {
     let at = field(b, at, 32)?;
@@ -61,10 +74,14 @@ fn output(b: &[u8], at: usize) -> Result<usize, FormFault>
     field(b, at, 8)
 }
 
+// Past a count of outputs, which have one size: one test where all are there, else one by one.
 fn outputs(b: &[u8], at: usize) -> Result<usize, FormFault>
     ensures { λ r. ⌜ r ≡ counted (outputForm (now (b .entry))) (now (b .entry)) at ⌝ }
 {
     let (n, mut at) = count(b, at, 64)?;
+    if b.len() - at >= 17 * n {
+        return Ok(at + 17 * n);
+    }
     for _i in 0..n {
         at = output(b, at)?;
     }

@@ -2,8 +2,9 @@
 use coins::coin::Lock;
 
 mod accepted;
+mod each_item;
+mod each_transaction;
 mod fields;
-mod walk;
 
 // An input or an output of a transaction, with the offset in the block at which it begins.
 #[derive(Clone, Copy)]

@@ -1,6 +1,6 @@
 -- The turns of the walk for the next pair.
-use mathlib.Core.Path.{_≡_, refl, sym, ap, subst, _∙_}
-use mathlib.Core.Bool.{Bool, true, false}
+use mathlib.Core.Path.{_≡_, refl, sym, ap, _∙_}
+use mathlib.Core.Bool.{true, false}
 use mathlib.Core.List.{List, [], _∷_}
 use Prim.Native.Nat.{ℕ, _+_, _≤_, _<_, zero, suc}
 use native.Mathlib.Omega.{arith}
@@ -13,8 +13,7 @@ use Rattle.std.specs.declared.option.Option.the-variants.{None, Some}
 use Rattle.coins.specs.declared.outpoint.Outpoint.{Outpoint}
 use Rattle.coins.specs.declared.coin.Coin.{Coin}
 use Rattle.coins.specs.Order.{order}
-use Rattle.maps.specs.Maps.{Sorted, look}
-use Rattle.maps.specs.Maps.{next-of, Beyond}
+use Rattle.maps.specs.Maps.{Sorted, look, next-of, Beyond}
 use Rattle.maps.proofs.Merged.{next-none, next-below, next-before, next-entry, next-spent, none-before, next-at}
 use Rattle.maps.specs.Keyed.{outpoints}
 use Rattle.coinsview.specs.Meaning.{Coins, next-in}

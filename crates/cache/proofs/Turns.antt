@@ -1,12 +1,12 @@
 -- What each call makes of a cache that is in order.
 use mathlib.Core.Path.{_≡_, refl, sym, ap, subst, _∙_}
 use mathlib.Core.Bool.{Bool, true, false, cond}
-use mathlib.Core.List.{List, [], _∷_}
+use mathlib.Core.List.{[]}
 use Prim.Native.Nat.{ℕ, _+_, _-_, _≤_, _<_}
 use native.Mathlib.Omega.{arith}
 use lib.Dec.{ltb}
 use lib.ListN.{length, getD}
-use borrow.Author.Tests.{ltb-true, ltb-false, lt-ltb}
+use borrow.Author.Tests.{ltb-true, lt-ltb}
 use Rattle.std.proofs.shelf.Ways.{tells}
 use Rattle.std.specs.declared.option.Option.{Option}
 use Rattle.std.specs.declared.option.Option.the-variants.{None, Some}
@@ -20,21 +20,21 @@ use Rattle.maps.specs.Keyed.{outpoints}
 use Rattle.coinsview.specs.Meaning.{Coins, coin-at, with-coin, without}
 use Rattle.entries.specs.declared.table.Entry.{Entry}
 use Rattle.entries.specs.Entries.{clean, created, replaced, spent, Entries, entry-at, with-entry, without-entry}
-use Rattle.cache.specs.Rules.{look-entry, look-entries, take-entry, take-entries, with-room, below-with-room, marks, over-below, taken-below, put-below, spilled-below}
+use Rattle.cache.specs.Rules.{look-entry, look-entries, take-entry, take-entries, with-room, below-with-room, marks, over-below, taken-below, spilled-below}
 use Rattle.cache.specs.Kept.{Kept}
 
 module _ (es : Entries) (room n : ℕ) (m : Coins) (most : ℕ) (h : Kept es room n m most) (s : Sorted outpoints m) where
   pub spill-can : (a : Entries) (t : Coins) (top : ℕ) → a ≡ es → t ≡ taken-below es m → top ≡ most → Fits outpoints marks top a t
   spill-can a t top x y z =
       let P : Entries → Coins → ℕ → Type 0 = λ a t top. Fits outpoints marks top a t in
-      subst (λ a. P a t top) (sym x) (subst (λ t. P es t top) (sym y) (subst (P es (taken-below es m)) (sym z) (spill-fits outpoints marks most es m (h .climb) s (h .step) (h .fits))))
+      subst (λ a. P a t top) (sym x) (subst (λ t. P es t top) (sym y) (subst (P es (taken-below es m)) (sym z) (spill-fits outpoints marks most es m (h .sorted) s (h .step) (h .fits))))
 
   pub spill-map : spilled-below es m ≡ over-below es m
-  spill-map = spilled-is outpoints marks es m (h .climb) s (h .step)
+  spill-map = spilled-is outpoints marks es m (h .sorted) s (h .step)
 
   pub kept-empty : (now : Coins) (size top : ℕ) → now ≡ over-below es m → size ≡ room → top ≡ most → Kept [] size n now top
   kept-empty now size top x y z = record {
-    climb = tt;
+    sorted = tt;
     few = omega arith;
     held = omega (arith, h .held);
     step = flags-none outpoints marks now;
@@ -48,7 +48,7 @@ module _ (es : Entries) (room n : ℕ) (m : Coins) (most : ℕ) (h : Kept es roo
 
   -- ---- what the map says of one outpoint
   pub over-at : (k : Outpoint) (w : Option Entry) → entry-at k es ≡ w → coin-at k (over-below es m) ≡ said marks w (coin-at k m)
-  over-at k w e = look-laid outpoints marks k es m (h .climb) s ∙ ap (λ x. said marks x (coin-at k m)) e
+  over-at k w e = look-laid outpoints marks k es m (h .sorted) s ∙ ap (λ x. said marks x (coin-at k m)) e
 
 -- the parts in order, with the map that they say
 abbrev pub Says : Entries → ℕ → ℕ → Coins → ℕ → Coins → Type 0
@@ -57,7 +57,7 @@ Says es room n m most x = Kept es room n m most × (over-below es m ≡ x)
 pub says-is : (es es′ : Entries) (room room′ n n′ : ℕ) (m m′ : Coins) (most most′ : ℕ) (x : Coins) → Says es room n m most x → es′ ≡ es → 64 ≤ room′ → n′ ≡ n → m′ ≡ m → most′ ≡ most → Says es′ room′ n′ m′ most′ x
 says-is es es′ room room′ n n′ m m′ most most′ x h a b c d e =
     let k = h .0 in
-    let k1 : Kept es room′ n m most = record { climb = k .climb; few = k .few; held = b; step = k .step; counted = k .counted; fits = k .fits } in
+    let k1 : Kept es room′ n m most = record { sorted = k .sorted; few = k .few; held = b; step = k .step; counted = k .counted; fits = k .fits } in
     let P : Entries → ℕ → Coins → ℕ → Type 0 = λ es n m most. Says es room′ n m most x in
     subst (λ z. P z n′ m′ most′) (sym a) (subst (λ z. P es z m′ most′) (sym c) (subst (λ z. P es n z most′) (sym d) (subst (λ z. P es n m z) (sym e) (k1, h .1))))
 
@@ -65,10 +65,10 @@ module _ (es : Entries) (room n : ℕ) (m : Coins) (most : ℕ) (h : Kept es roo
   pub says-with : (e : Entry) (x : Coins) (n′ : ℕ) → Agrees marks e (coin-at k m) → length (with-entry k e es) ≤ 64 → over-below (with-entry k e es) m ≡ x → n′ ≡ length x → length x ≤ most → Says (with-entry k e es) room n′ m most x
   says-with e x n′ a l w c f = (
     record {
-      climb = sorted-insert outpoints k e es (h .climb);
+      sorted = sorted-insert outpoints k e es (h .sorted);
       few = l;
       held = h .held;
-      step = flags-insert outpoints marks k e es m (h .climb) (h .step) a;
+      step = flags-insert outpoints marks k e es m (h .sorted) (h .step) a;
       counted = c ∙ ap length (sym w);
       fits = omega (arith, f, ap length w);
     },
@@ -76,7 +76,7 @@ module _ (es : Entries) (room n : ℕ) (m : Coins) (most : ℕ) (h : Kept es roo
   )
 
   pub over-with : (e : Entry) → over-below (with-entry k e es) m ≡ write outpoints k (e .coin) (over-below es m)
-  over-with e = laid-insert outpoints marks k e es m (h .climb) s
+  over-with e = laid-insert outpoints marks k e es m (h .sorted) s
 
   -- an entry written over
   pub few-over : (e old : Entry) → entry-at k es ≡ Some old → length (with-entry k e es) ≤ 64
@@ -126,12 +126,12 @@ module _ (es : Entries) (room n : ℕ) (m : Coins) (most : ℕ) (h : Kept es roo
       let c = h .counted in
       let fit = h .fits in
       let few = h .few in
-      let over : over-below (without-entry k es) m ≡ without k (over-below es m) = laid-remove outpoints marks k es m (h .climb) s (h .step k e f .1 y) in (
+      let over : over-below (without-entry k es) m ≡ without k (over-below es m) = laid-remove outpoints marks k es m (h .sorted) s (h .step k e f .1 y) in (
         record {
-          climb = sorted-remove outpoints k es (h .climb);
+          sorted = sorted-remove outpoints k es (h .sorted);
           few = omega arith;
           held = h .held;
-          step = flags-remove outpoints marks k es m (h .climb) (h .step);
+          step = flags-remove outpoints marks k es m (h .sorted) (h .step);
           counted = (let w = ap length over in omega arith);
           fits = omega (arith, ap length over);
         },
@@ -140,7 +140,7 @@ module _ (es : Entries) (room n : ℕ) (m : Coins) (most : ℕ) (h : Kept es roo
 
   -- look enters what it found below
   pub look-clean : (v : Coin) → entry-at k es ≡ None → coin-at k m ≡ Some v → length es < 64 → Says (with-entry k (clean v) es) room n m most (over-below es m)
-  look-clean v f z r = says-with (clean v) _ n (λ d. z, λ d. absurd (let q : _≡_ {A = ℕ} 0 1 = cc in omega arith), λ d y. absurd (let q : _≡_ {A = ℕ} 0 1 = cc in omega arith), λ d. absurd (let q : _≡_ {A = ℕ} 0 1 = cc in omega arith)) (few-new (clean v) f r) (laid-clean outpoints marks k (clean v) es m (h .climb) s f z) (h .counted) (h .fits)
+  look-clean v f z r = says-with (clean v) _ n (λ d. z, λ d. absurd (let q : _≡_ {A = ℕ} 0 1 = cc in omega arith), λ d y. absurd (let q : _≡_ {A = ℕ} 0 1 = cc in omega arith), λ d. absurd (let q : _≡_ {A = ℕ} 0 1 = cc in omega arith)) (few-new (clean v) f r) (laid-clean outpoints marks k (clean v) es m (h .sorted) s f z) (h .counted) (h .fits)
 
   -- ---- room for one more
   pub record Roomy (es′ : Entries) (m′ : Coins) : Type 0 where
@@ -170,10 +170,6 @@ module _ (es : Entries) (room n : ℕ) (m : Coins) (most : ℕ) (h : Kept es roo
 -- the entry that a search found, as it was read
 pub seen : (k : Outpoint) (es : Entries) (i : ℕ) (z : Outpoint × Entry) → ((d : Outpoint × Entry) → entry-at k es ≡ Some (getD es i d .1)) → z ≡ getD es i z → entry-at k es ≡ Some (z .1)
 seen k es i z f r = f z ∙ ap (λ x. Some (x .1)) (sym r)
-
--- so there is one
-pub some-there : (k : Outpoint) (es : Entries) (e : Entry) → entry-at k es ≡ Some e → entry-at k es ≡ None → ⊥
-some-there k es e f n = let q : _≡_ {A = ℕ} 0 1 = cc in omega arith
 
 -- what look leaves of the entries
 pub look-kept : (k : Outpoint) (e : Entry) (es : Entries) (x : Option Coin) → entry-at k es ≡ Some e → es ≡ look-entries x k es

@@ -13,7 +13,7 @@ use Rattle.cache.specs.Rules.{marks, over-below}
 -- of entries with memory for `room`, a count n, and below a map m of `most` pairs at most
 pub record Kept (es : Entries) (room n : ℕ) (m : Coins) (most : ℕ) : Type 0 where
   -- in the order of their outpoints, so that no outpoint has two
-  pub climb : Sorted outpoints es
+  pub sorted : Sorted outpoints es
   pub few : length es ≤ 64
   pub held : 64 ≤ room
   -- an entry that is not dirty says what is below; a fresh one has a coin and none below; any other has a coin below

@@ -6,7 +6,6 @@
 --     spilled-below    a spill takes every outpoint of a dirty entry that is not fresh, then puts every dirty coin
 use mathlib.Core.Bool.{cond}
 use mathlib.Core.List.{[]}
-use Prim.Native.Nat.{ℕ}
 use lib.Dec.{ltb}
 use lib.ListN.{length}
 use Rattle.std.specs.declared.option.Option.{Option}
@@ -15,7 +14,7 @@ use Rattle.std.specs.declared.result.Result.{Result}
 use Rattle.std.specs.declared.result.Result.the-variants.{Ok, Err}
 use Rattle.coins.specs.declared.coin.Coin.{Coin}
 use Rattle.coins.specs.declared.outpoint.Outpoint.{Outpoint}
-use Rattle.maps.specs.Layers.{Marks, laid, Flags, takes, puts}
+use Rattle.maps.specs.Layers.{Marks, laid, takes, puts}
 use Rattle.maps.specs.Keyed.{outpoints}
 use Rattle.coinsview.specs.Meaning.{Coins}
 use Rattle.coinsview.specs.declared.fault.ViewFault.{ViewFault}

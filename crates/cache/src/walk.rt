@@ -32,7 +32,7 @@ pub fn next_over<V: CoinsView>(
     from: Option<Outpoint>,
 ) -> Option<(Outpoint, Coin)>
     requires ok { ⌜ V·CoinsView .ok (now below) ⌝ }
-    requires climb { ⌜ Sorted outpoints (now entries) ⌝ }
+    requires sorted { ⌜ Sorted outpoints (now entries) ⌝ }
     requires within { ⌜ start ≤ length (now entries) ⌝ }
     requires first { ⌜ next-of outpoints from (now entries) ≡ nth (now entries) start ⌝ }
     ensures ok { λ _. ⌜ V·CoinsView .ok (now (below .exit)) ⌝ }

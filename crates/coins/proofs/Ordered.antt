@@ -20,7 +20,7 @@ then-first Greater b n = refl
 rank-itself : (x : ℕ) → rank x x ≡ Equal
 rank-itself x = grind (arith, tells)
 
-rank-equal : (x y : ℕ) → rank x y ≡ Equal → x ≡ y
+pub rank-equal : (x y : ℕ) → rank x y ≡ Equal → x ≡ y
 rank-equal x y h = grind (arith, tells)
 
 pub lex-itself : (xs : List ℕ) → lex unsigned xs xs ≡ Equal

@@ -1,21 +1,20 @@
 -- What a search, a put and a take say of a table that is kept in order.
-use mathlib.Core.Path.{_≡_, refl, sym, ap, subst, _∙_}
-use mathlib.Core.Bool.{true, false}
-use mathlib.Core.List.{List, []}
-use Prim.Native.Nat.{ℕ, _+_, _-_, _≤_, _<_}
+use mathlib.Core.Path.{_≡_, sym, ap, subst, _∙_}
+use mathlib.Core.Bool.{false}
+use mathlib.Core.List.{[]}
+use Prim.Native.Nat.{ℕ, _≤_, _<_}
 use native.Mathlib.Omega.{arith}
-use lib.Dec.{ltb, lit≤}
-use lib.ListN.{length, getD, take}
+use lib.Dec.{lit≤}
+use lib.ListN.{length, getD}
 use Rattle.std.specs.Finite.{nth}
 use Rattle.std.specs.Holes.{inserted, removed}
-use Rattle.std.specs.declared.option.Option.{Option}
 use Rattle.std.specs.declared.option.Option.the-variants.{None, Some}
 use Rattle.std.specs.declared.result.Result.the-variants.{Ok, Err}
 use Rattle.std.proofs.shelf.Lists.{length-take-le, getD-take}
 use Rattle.std.proofs.shelf.Maps.{nth-getD, nth-past}
 use Rattle.coins.specs.declared.coin.Coin.{Coin}
 use Rattle.coins.specs.declared.outpoint.Outpoint.{Outpoint}
-use Rattle.maps.specs.Maps.{Sorted, place}
+use Rattle.maps.specs.Maps.{Sorted}
 use Rattle.maps.specs.Keyed.{outpoints}
 use Rattle.maps.specs.Search.{Found}
 use Rattle.maps.proofs.Laws.{sorted-insert, sorted-remove, insert-place, remove-place}

@@ -4,3 +4,4 @@ pub mod Kept
 pub mod Made
 pub mod Table
 pub mod Quota
+pub mod Laws

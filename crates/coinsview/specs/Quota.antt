@@ -1,5 +1,5 @@
 -- A quota over a view with the meaning v: the same maps, and a capacity of its own.
-use Prim.Native.Nat.{ℕ, _≤_}
+use Prim.Native.Nat.{_≤_}
 use native.Mathlib.Nat.{le-trans}
 use lib.ListN.{length}
 use Rattle.coinsview.specs.declared.quota.Quota.{Quota}

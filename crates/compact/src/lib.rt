@@ -1,10 +1,11 @@
 // Compact sizes: a number in 1, 3, 5 or 9 bytes, always in the shortest form.
 ghost use mathlib.Core.Path.{_≡_};
 ghost use mathlib.Core.List.{List, _++_};
-ghost use Prim.Native.Nat.{ℕ, _<_, _^_};
+ghost use Prim.Native.Nat.{ℕ, _<_, _≤_, _^_};
 ghost use lib.ListN.{length, drop};
 ghost use Rattle.std.specs.Results.{Cases};
 ghost use Rattle.std.specs.declared.result.Result.the-variants.{Ok, Err};
+ghost use Rattle.compact.specs.declared.SizeFault.the-variants.{LongForm};
 ghost use Rattle.compact.specs.Compact.{encode, read-size, Written-is-read, Read-is-written, One-encoding, Small-is-a-byte, Nothing-is-cut, Examples};
 
 // Why no number is read: bytes are missing, or the form is not the shortest.
@@ -18,6 +19,16 @@ pub enum SizeFault {
 #[derive(Clone, Copy, PartialEq, Eq, Debug)]
 pub struct ShortBuffer;
 
+// A number whose form is the shortest for all from `least` on, with what follows it.
+fn shortest(n: u64, least: u64, rest: &[u8]) -> Result<(u64, &[u8]), SizeFault>
+    ensures { λ r. ⌜ Cases r (λ p. (least ≤ n) × (p .0 ≡ n) × (now (p .1) ≡ now (rest .entry))) (λ e. (n < least) × (e ≡ LongForm)) ⌝ }
+{
+    if n < least {
+        return Err(SizeFault::LongForm);
+    }
+    Ok((n, rest))
+}
+
 // The number at the front of `s`, and what follows it.
 pub fn read_size(s: &[u8]) -> Result<(u64, &[u8]), SizeFault>
     ensures answer { λ r. ⌜ Cases r (λ p. read-size (now (s .entry)) ≡ Ok (p .0, now (p .1))) (λ e. read-size (now (s .entry)) ≡ Err e) ⌝ }
@@ -26,27 +37,15 @@ pub fn read_size(s: &[u8]) -> Result<(u64, &[u8]), SizeFault>
     match s {
         [0xFD, a, b, rest @ ..] => {
             let n = u16::from_le_bytes([*a, *b]);
-            if n < 0xFD {
-                Err(SizeFault::LongForm)
-            } else {
-                Ok((u64::from(n), rest))
-            }
+            shortest(u64::from(n), 0xFD, rest)
         }
         [0xFE, a, b, c, d, rest @ ..] => {
             let n = u32::from_le_bytes([*a, *b, *c, *d]);
-            if n < 0x1_0000 {
-                Err(SizeFault::LongForm)
-            } else {
-                Ok((u64::from(n), rest))
-            }
+            shortest(u64::from(n), 0x1_0000, rest)
         }
         [0xFF, a, b, c, d, e, f, g, h, rest @ ..] => {
             let n = u64::from_le_bytes([*a, *b, *c, *d, *e, *f, *g, *h]);
-            if n < 0x1_0000_0000 {
-                Err(SizeFault::LongForm)
-            } else {
-                Ok((n, rest))
-            }
+            shortest(n, 0x1_0000_0000, rest)
         }
         [0xFD..=0xFF, ..] | [] => Err(SizeFault::Cut),
         [n, rest @ ..] => Ok((u64::from(*n), rest)),

@@ -99,6 +99,7 @@ module _ (ts vs : List TransactionValue) (v : TransactionValue) (e : ts ≡ v �
       where
         k : n ≡ coins-made (v .outputs)
         k = passed 0 _ (coinbase-checks v) r o q a {Y = Unit} n (λ u. Ok u) h .1
+
         go : (s : Result Unit BlockFault) → then s (λ _. Ok (others-needs vs)) ≡ Ok m → then s (λ _. Ok (transactions-needs (v ∷ vs))) ≡ Ok (n + m)
         go (Ok u) x = let l : others-needs vs ≡ m = ok-same {F = BlockFault} _ _ x in ap Ok (omega (arith, k, l))
         go (Err g) x = no-err _ m x

@@ -5,9 +5,9 @@ ghost use lib.ListN.{length};
 ghost use Rattle.std.specs.Vec.{made};
 ghost use Rattle.std.specs.declared.result.Result.the-variants.{Ok};
 ghost use Rattle.blockform.specs.Value.{TransactionValue};
-ghost use Rattle.blockform.specs.Readers.{items-of, transactions-of, block-of, Items-good, Transactions-good, Block-good, Hands};
-ghost use Rattle.connecting.specs.Parts.{inputs-in, outputs-in};
-ghost use Rattle.connecting.specs.Rules.{then, is-coinbase as coinbaseBy, money, no-null, some-data, coinbase-checks, spending-checks, others-checks, checks, coins-made, others-needs, needs as needsOf};
+ghost use Rattle.blockform.specs.Readers.{piece-of, items-of, transactions-of, block-of, Items-good, Transactions-good, Block-good, Hands};
+ghost use Rattle.connecting.specs.Parts.{inputs-in, outputs-in, null-piece};
+ghost use Rattle.connecting.specs.Rules.{then, is-coinbase as coinbaseBy, money, no-null, some-data, coinbase-checks, spending-checks, others-checks, transactions-checks, transactions-needs, same-id, checks, coins-made, others-needs, needs as needsOf};
 use crate::fault::BlockFault;
 use crate::fault::TransactionFault;
 use crate::fault::at_transaction;
@@ -19,6 +19,19 @@ use blockform::reader::Transactions;
 use coins::coin::MAX_VALUE;
 use coins::outpoint::Outpoint;
 
+// An input that names the null outpoint.
+fn is_null(item: &Item<'_>) -> bool
+    ensures { λ r. ⌜ r ≡ null-piece (piece-of (now (item .entry))) ⌝ }
+{
+    match item {
+        Item::Input { id, index, .. } => Outpoint {
+            id: **id,
+            index: *index,
+        }.is_null(),
+        Item::Output { .. } => false,
+    }
+}
+
 // Exactly one input, the null outpoint.
 fn is_coinbase(mut inputs: Items<'_>) -> bool
     requires { ⌜ Items-good inputs ⌝ }
@@ -28,8 +41,8 @@ fn is_coinbase(mut inputs: Items<'_>) -> bool
         return false;
     }
     match inputs.next() {
-        Some(Item::Input { id, index, .. }) => Outpoint { id: *id, index }.is_null(),
-        _ => false,
+        Some(item) => is_null(&item),
+        None => false,
     }
 }
 
@@ -129,19 +142,12 @@ fn check_others(mut others: Transactions<'_>) -> Result<usize, BlockFault>
     Ok(needed)
 }
 
-// The checks of a block that would follow the tip `tip` at height `height`, the last height being `last`. Answers how many undo entries it needs.
-pub fn check_block(block: &Block<'_>, tip: &[u8; 32], height: u32, last: u32) -> Result<usize, BlockFault>
-    requires { ⌜ Block-good (now block) ⌝ }
-    ensures is { λ r. ⌜ r ≡ then (checks (now (tip .entry)) height last (block-of (now (block .entry)))) (λ _. Ok (needsOf (block-of (now (block .entry))))) ⌝ }
-    ensures few { λ r. ⌜ made r (λ n. n ≤ 8257) ⌝ }
+// The checks of a block's transactions. Answers how many undo entries they need.
+fn check_transactions(mut others: Transactions<'_>) -> Result<usize, BlockFault>
+    requires { ⌜ Transactions-good others ⌝ }
+    ensures is { λ r. ⌜ r ≡ then (transactions-checks (transactions-of (others .entry))) (λ _. Ok (transactions-needs (transactions-of (others .entry)))) ⌝ }
+    ensures few { λ r. ⌜ made r (λ n. n ≤ 8256) ⌝ }
 {
-    if *block.previous() != *tip {
-        return Err(BlockFault::Parent);
-    }
-    if height >= last {
-        return Err(BlockFault::LastHeight);
-    }
-    let mut others = block.transactions();
     let Some(first) = others.next() else {
         return Err(BlockFault::NoCoinbase);
     };
@@ -149,5 +155,33 @@ pub fn check_block(block: &Block<'_>, tip: &[u8; 32], height: u32, last: u32) ->
         return Err(BlockFault::NoCoinbase);
     }
     let made = at_transaction(check_coinbase(&first), 0)?;
-    Ok(1 + made + check_others(others)?)
+    let needed = check_others(others)?;
+    Ok(made + needed)
+}
+
+fn is_same(a: &[u8; 32], b: &[u8; 32]) -> bool
+    ensures { λ r. ⌜ r ≡ same-id (now (a .entry)) (now (b .entry)) ⌝ }
+{
+    *a == *b
+}
+
+// The checks of a block that would follow the tip `tip` at height `height`, the last height being `last`. Answers how many undo entries it needs.
+pub fn check_block(
+    block: &Block<'_>,
+    tip: &[u8; 32],
+    height: u32,
+    last: u32,
+) -> Result<usize, BlockFault>
+    requires { ⌜ Block-good (now block) ⌝ }
+    ensures is { λ r. ⌜ r ≡ then (checks (now (tip .entry)) height last (block-of (now (block .entry)))) (λ _. Ok (needsOf (block-of (now (block .entry))))) ⌝ }
+    ensures few { λ r. ⌜ made r (λ n. n ≤ 8257) ⌝ }
+{
+    if !is_same(block.previous(), tip) {
+        return Err(BlockFault::Parent);
+    }
+    if height >= last {
+        return Err(BlockFault::LastHeight);
+    }
+    let needed = check_transactions(block.transactions())?;
+    Ok(1 + needed)
 }

@@ -7,13 +7,13 @@ ghost use Rattle.connecting.specs.declared.fault.InputFault.the-variants.{View
 ghost use Rattle.connecting.specs.declared.fault.TransactionFault.the-variants.{Item as AtItem};
 ghost use Rattle.connecting.specs.declared.fault.BlockFault.the-variants.{Form as OfForm, Transaction as AtTransaction};
 use blockform::fault::FormFault;
-use coinsview::fault::ViewFault;
-use refusal::Reason;
-use refusal::Refusal;
 use blockform::fault::FormFaultDebug;
 use blockform::fault::FormFaultPartialEq;
+use coinsview::fault::ViewFault;
 use coinsview::fault::ViewFaultDebug;
 use coinsview::fault::ViewFaultPartialEq;
+use refusal::Reason;
+use refusal::Refusal;
 
 // Why an input is not spent, or an output not made.
 #[derive(Clone, Copy, PartialEq, Eq, Debug)]

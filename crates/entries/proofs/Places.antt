@@ -1,6 +1,6 @@
 -- Entries changed at their place.
-use mathlib.Core.Path.{_≡_, refl, sym, ap, subst, _∙_}
-use mathlib.Core.List.{List, [], _∷_}
+use mathlib.Core.Path.{_≡_, refl, sym, ap, _∙_}
+use mathlib.Core.List.{[], _∷_}
 use Prim.Native.Nat.{ℕ, _<_, _+_, suc}
 use native.Mathlib.Omega.{arith}
 use native.Mathlib.Numerals.{add-one}
@@ -8,10 +8,9 @@ use Rattle.std.specs.Finite.{nth}
 use Rattle.std.specs.declared.result.Result.the-variants.{Ok, Err}
 use lib.ListN.{length, getD, set}
 use Rattle.std.specs.Holes.{removed}
-use Rattle.std.specs.declared.option.Option.{Option}
-use Rattle.std.specs.declared.option.Option.the-variants.{None, Some}
+use Rattle.std.specs.declared.option.Option.the-variants.{Some}
 use Rattle.coins.specs.declared.outpoint.Outpoint.{Outpoint}
-use Rattle.maps.specs.Maps.{place, look, after, Sorted}
+use Rattle.maps.specs.Maps.{look, after, Sorted}
 use Rattle.maps.proofs.Laws.{remove-place, after-present, after-absent}
 use Rattle.maps.proofs.Layered.{set-place, key-place}
 use Rattle.maps.specs.Keyed.{outpoints}

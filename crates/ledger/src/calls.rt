@@ -1,4 +1,6 @@
 // The calls on a ledger.
+ghost use Prim.Native.Nat.{_≤_};
+ghost use Rattle.blockform.specs.Readers.{Block-good};
 use crate::Balance;
 use crate::Connected;
 use crate::Disconnected;
@@ -20,6 +22,7 @@ use connecting::apply::apply_block;
 use connecting::check::check_block;
 use connecting::fault::BlockFault;
 use connecting::fault::BlockFromForm;
+use connecting::unwind::Unwound;
 use connecting::unwind::unwind;
 use undo::Record;
 use undo::Undo;
@@ -72,6 +75,8 @@ impl<V: CoinsView, C: SpendCondition> Ledger<V, C> {
             return Err(LedgerFault::NotEmpty);
         }
         self.terms = terms;
+        self.chain.keep(0);
+        self.kept = 0;
         self.tip = Tip { id: *id, height: 0 };
         self.started = true;
         Ok(())
@@ -85,28 +90,6 @@ impl<V: CoinsView, C: SpendCondition> Ledger<V, C> {
         }
     }
 
-    // Applies a block that has passed its checks, or leaves the coins and the undo entries as they read before.
-    fn apply(&mut self, block: &Block<'_>, height: u32) -> Result<Sums, BlockFault>
-        requires { ⌜ V·CoinsView .ok (now self .view) ⌝ }
-        ensures { λ _. ⌜ V·CoinsView .ok (now (self .exit) .view) ⌝ }
-    {
-        let site = Site {
-            height,
-            maturity: self.terms.maturity,
-            halving: self.terms.halving,
-        };
-        let _ = self.chain.push(Record::Mark(*block.previous()));
-        let applied = apply_block(
-            &mut self.view,
-            &self.condition,
-            &mut self.chain,
-            block, site);
-        if applied.is_err() {
-            let _ = unwind(&mut self.view, &mut self.chain);
-        }
-        applied
-    }
-
     // Connects a block to the tip, or says why not.
     fn connect_block(&mut self, bytes: &[u8]) -> Result<Connected, BlockFault>
         requires { ⌜ V·CoinsView .ok (now self .view) ⌝ }
@@ -118,11 +101,20 @@ impl<V: CoinsView, C: SpendCondition> Ledger<V, C> {
             return Err(BlockFault::LogFull);
         }
         let height = self.tip.height + 1;
-        let sums = self.apply(&block, height)?;
-        self.tip = Tip {
-            id: *block.id(),
+        let site = Site {
             height,
+            maturity: self.terms.maturity,
+            halving: self.terms.halving,
         };
+        let sums = apply(
+            &mut self.view,
+            &self.condition,
+            &mut self.chain,
+            &block,
+            site,
+        )?;
+        let id = *block.id();
+        self.tip = Tip { id, height };
         self.kept += 1;
         Ok(Connected {
             height,
@@ -154,18 +146,25 @@ impl<V: CoinsView, C: SpendCondition> Ledger<V, C> {
         let Some(unwound) = unwind(&mut self.view, &mut self.chain) else {
             return Err(LedgerFault::Nothing);
         };
+        Ok(self.step_back(unwound))
+    }
+
+    // The tip goes back by one block.
+    fn step_back(&mut self, unwound: Unwound) -> Disconnected
+        requires { ⌜ V·CoinsView .ok (now self .view) × (1 ≤ now self .kept) ⌝ }
+        ensures { λ _. ⌜ V·CoinsView .ok (now (self .exit) .view) ⌝ }
+    {
         let height = self.tip.height;
-        self.tip = Tip {
-            id: unwound.previous,
-            height: height.saturating_sub(1),
-        };
+        let id = unwound.previous;
         self.kept -= 1;
-        let outcome = if unwound.clean {
-            Outcome::Clean
-        } else {
-            Outcome::Unclean
+        self.tip = Tip {
+            id,
+            height: height - 1,
         };
-        Ok(Disconnected { height, outcome })
+        Disconnected {
+            height,
+            outcome: outcome(unwound.clean),
+        }
     }
 
     // Keeps the undo entries of the newest n blocks, frees the others, and answers how many blocks are kept.
@@ -174,12 +173,12 @@ impl<V: CoinsView, C: SpendCondition> Ledger<V, C> {
         ensures { λ _. ⌜ V·CoinsView .ok (now (self .exit) .view) ⌝ }
     {
         self.check_started()?;
-        let kept = self.kept as u64;
+        let kept = u64::from(self.kept);
         if kept <= n {
             return Ok(kept);
         }
         self.chain.keep(n as usize);
-        self.kept = n as usize;
+        self.kept = n as u32;
         Ok(n)
     }
 
@@ -226,22 +225,53 @@ impl<V: CoinsView, C: SpendCondition> Ledger<V, C> {
     }
 }
 
+// Applies a block that has passed its checks, or leaves the coins and the undo entries as they read before.
+fn apply<V: CoinsView, C: SpendCondition>(
+    view: &mut V,
+    condition: &C,
+    chain: &mut Undo,
+    block: &Block<'_>,
+    site: Site,
+) -> Result<Sums, BlockFault>
+    requires { ⌜ V·CoinsView .ok (now view) × Block-good (now block) ⌝ }
+    ensures { λ _. ⌜ V·CoinsView .ok (now (view .exit)) ⌝ }
+{
+    let previous = *block.previous();
+    // The room for the mark was tested.
+    let _ = chain.push(Record::Mark(previous));
+    let applied = apply_block(view, condition, chain, block, site);
+    if applied.is_err() {
+        let _ = unwind(view, chain);
+    }
+    applied
+}
+
+fn outcome(clean: bool) -> Outcome {
+    if clean {
+        Outcome::Clean
+    } else {
+        Outcome::Unclean
+    }
+}
+
 // Walks the coins in the order of their outpoints, and adds up those of a lock.
 fn balance_of<V: CoinsView>(view: &mut V, lock: &Lock) -> Balance
     requires { ⌜ V·CoinsView .ok (now view) ⌝ }
     ensures { λ _. ⌜ V·CoinsView .ok (now (view .exit)) ⌝ }
 {
-    let mut balance = Balance { coins: 0, value: 0 };
-    let mut from = None;
-    for _turn in 0..view.count() {
-        let Some((at, coin)) = view.next(from.as_ref()) else {
-            return balance;
+    let count = view.count();
+    let mut coins = 0;
+    let mut value = 0;
+    let mut last = None;
+    for _turn in 0..count {
+        let Some(pair) = view.next(last.as_ref()) else {
+            return Balance { coins, value };
         };
-        if coin.lock == *lock {
-            balance.coins += 1;
-            balance.value += coin.value;
+        if pair.1.lock == *lock {
+            coins += 1;
+            value += pair.1.value;
         }
-        from = Some(at);
+        last = Some(pair.0);
     }
-    balance
+    Balance { coins, value }
 }

@@ -1,4 +1,6 @@
 // A ledger over any coins view and any spend condition.
+ghost use Prim.Native.Nat.{_≤_};
+
 pub mod calls;
 pub mod fault;
 pub mod terms;
@@ -51,6 +53,7 @@ pub struct Ledger<V, C> {
     chain: Undo,
     terms: Terms,
     tip: Tip,
-    kept: usize,
+    kept: u32,
     started: bool,
+    ghost counts: { kept ≤ tip .height },
 }

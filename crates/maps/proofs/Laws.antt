@@ -1,17 +1,15 @@
 -- The laws of finite maps, over any total order of the keys.
 use mathlib.Core.Path.{_≡_, refl, sym, ap, subst, _∙_}
 use mathlib.Core.List.{List, [], _∷_}
-use mathlib.Core.Logic.{_≢_}
 use Prim.Native.Nat.{ℕ, _+_, suc, zero, _<_, _≤_}
-use lib.ListN.{take, drop, getD, set}
+use lib.ListN.{getD, length}
 use Rattle.std.specs.Holes.{inserted, removed}
 use native.Mathlib.Omega.{arith}
-use lib.ListN.{length}
 use Rattle.std.specs.declared.cmp.Ordering.{Ordering}
 use Rattle.std.specs.declared.cmp.Ordering.the-variants.{Less, Equal, Greater}
 use Rattle.std.specs.declared.option.Option.{Option}
 use Rattle.std.specs.declared.option.Option.the-variants.{None, Some}
-use Rattle.std.specs.Orderings.{reversed, Ranked}
+use Rattle.std.specs.Orderings.{Ranked}
 use Rattle.maps.specs.Maps.{Order, pick, look, insert, remove, Above, Sorted, total, write, one-if, place, after}
 use Rattle.std.specs.Finite.{nth}
 

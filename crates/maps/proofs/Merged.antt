@@ -1,7 +1,7 @@
 -- The next pair of entries over a map.
 use mathlib.Core.Path.{_≡_, refl, sym, ap, subst, _∙_}
 use mathlib.Core.List.{List, [], _∷_}
-use Prim.Native.Nat.{ℕ, _+_, suc, zero, _<_, _≤_}
+use Prim.Native.Nat.{ℕ, _+_, suc, zero, _<_}
 use native.Mathlib.Omega.{arith}
 use lib.ListN.{length, getD}
 use native.Mathlib.Numerals.{add-one}
@@ -10,9 +10,9 @@ use Rattle.std.specs.declared.cmp.Ordering.{Ordering}
 use Rattle.std.specs.declared.cmp.Ordering.the-variants.{Less, Equal, Greater}
 use Rattle.std.specs.declared.option.Option.{Option}
 use Rattle.std.specs.declared.option.Option.the-variants.{None, Some}
-use Rattle.maps.specs.Maps.{Order, pick, look, Above, Sorted, after, next-of, Beyond, Least}
-use Rattle.maps.proofs.Laws.{look-above, above-less, after-above, above-at}
-use Rattle.maps.specs.Layers.{Marks, said, laid}
+use Rattle.maps.specs.Maps.{Order, look, Above, Sorted, after, next-of, Beyond, Least}
+use Rattle.maps.proofs.Laws.{after-above, above-at}
+use Rattle.maps.specs.Layers.{Marks, laid}
 use Rattle.maps.proofs.Layered.{sorted-laid, look-laid}
 
 past : {K : Type 0} (o : Order K) (k q x : K) → (o .cmp k x ≡ Less → ⊥) → o .cmp k q ≡ Less → o .cmp q x ≡ Greater

@@ -6,15 +6,14 @@ use Prim.Native.Nat.{ℕ, _≤_, _<_}
 use native.Mathlib.Omega.{arith}
 use lib.ListN.{length, getD}
 use Rattle.std.specs.declared.cmp.Ordering.{Ordering}
-use Rattle.std.specs.declared.cmp.Ordering.the-variants.{Less, Equal, Greater}
-use Rattle.std.specs.declared.option.Option.{Option}
+use Rattle.std.specs.declared.cmp.Ordering.the-variants.{Less, Equal}
 use Rattle.std.specs.declared.option.Option.the-variants.{None, Some}
-use Rattle.std.specs.declared.result.Result.the-variants.{Ok, Err}
+use Rattle.std.specs.declared.result.Result.the-variants.{Ok}
 use Rattle.std.specs.Orderings.{Ranked}
 use Rattle.std.proofs.shelf.Lists.{getD-default}
 use Rattle.std.proofs.shelf.Tests.{cases-lt}
 use Rattle.maps.specs.Maps.{Order, pick, place, look, Sorted}
-use Rattle.maps.proofs.Laws.{place-at, place-within, look-place, look-past}
+use Rattle.maps.proofs.Laws.{place-at, look-place, look-past}
 use Rattle.maps.specs.Search.{Found}
 
 module _ {K V : Type 0} (o : Order K) (k : K) (m : List (K × V)) (i : ℕ) (z : K × V) (inside : i < length m) where

@@ -65,10 +65,6 @@ texts [] = []
 texts (x ∷ xs) = line-text x ++ texts xs
 
 -- one printed line for each line of the script, or the refusal of a file that is too long
-pub record Printed-text (file script text : List ℕ) : Type 0 where
+pub record Printed (file script text : List ℕ) : Type 0 where
   pub long : 65536 < length file → text ≡ line-text (Refused (record { reason = reason.FileOverSize; first = 0; second = 0 }))
   pub lines : length file ≤ 65536 → (xs : List Line) × (text ≡ texts xs) × (length xs ≡ length (lines-of script))
-
--- a file that is too long leaves the ledger as it was
-abbrev pub Printed : {L : Type 0} → List ℕ → List ℕ → L → L → List ℕ → Type 0
-Printed file script a z text = Printed-text file script text × (65536 < length file → z ≡ a)

@@ -4,7 +4,6 @@ ghost use denote.Ref.{now as behind};
 ghost use Rattle.script.specs.Cuts.{held};
 ghost use Rattle.replay.specs.Answers.{start-line, connect-line, disconnect-line, balance-line};
 ghost use Rattle.replay.specs.Turns.{Turn, Moved, parsed};
-ghost use Rattle.std.specs.declared.option.Option.the-variants.{Some};
 use blockform::file::FileReader;
 use coins::coin::Lock;
 use coinsview::view::CoinsView;

@@ -1,7 +1,7 @@
 // The run over a cache on a flat table, from nothing but a block file and a script.
 ghost use Rattle.std.specs.Of.String.{string-bytes};
 ghost use Rattle.std.specs.Vec.{made};
-ghost use Rattle.replay.specs.Turns.{Printed-text};
+ghost use Rattle.replay.specs.Turns.{Printed};
 use crate::text::printout_of;
 use cache::cache::Cache;
 use cache::cache::CacheView;
@@ -46,7 +46,7 @@ pub fn printout_over_flat_table<'a>(
     blocks: &'a [u8],
     script: &'a [u8],
 ) -> Result<String, AllocError>
-    ensures { λ r. ⌜ made r (λ t. Printed-text (now (blocks .entry)) (now (script .entry)) (string-bytes t)) ⌝ }
+    ensures { λ r. ⌜ made r (λ t. Printed (now (blocks .entry)) (now (script .entry)) (string-bytes t)) ⌝ }
 {
     let mut cells = vec![in heap; CELL; CELLS]?;
     let view = Cache::new(heap, FlatTable::new(&mut cells))?;

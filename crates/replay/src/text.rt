@@ -1,11 +1,9 @@
 // The whole printout of a run.
 ghost use mathlib.Core.Path.{_≡_};
-ghost use mathlib.Core.List.{List};
-ghost use Prim.Native.Nat.{_≤_, _<_};
+ghost use Prim.Native.Nat.{_<_};
 ghost use lib.ListN.{length};
 ghost use Rattle.std.specs.Of.String.{string-bytes};
 ghost use Rattle.std.specs.Vec.{made};
-ghost use Rattle.printout.specs.declared.Line.{Line};
 ghost use Rattle.replay.specs.Turns.{Printed};
 use crate::session::Session;
 use blockform::file::FileReader;
@@ -26,7 +24,8 @@ pub fn printout_of<'a, V: CoinsView, C: SpendCondition>(
 ) -> Result<String, AllocError>
     requires { ⌜ V·CoinsView .ok (now ledger .view) ⌝ }
     ensures ok { λ _. ⌜ V·CoinsView .ok (now (ledger .exit) .view) ⌝ }
-    ensures text { λ r. ⌜ made r (λ t. Printed (now (blocks .entry)) (now (script .entry)) (now (ledger .entry)) (now (ledger .exit)) (string-bytes t)) ⌝ }
+    ensures text { λ r. ⌜ made r (λ t. Printed (now (blocks .entry)) (now (script .entry)) (string-bytes t)) ⌝ }
+    ensures unasked { λ _. ⌜ (65536 < length (now (blocks .entry)) → now (ledger .exit) ≡ now (ledger .entry)) ⌝ }
 {
     let mut text = String::new(heap);
     let file = match FileReader::new(blocks) {

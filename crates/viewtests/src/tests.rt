@@ -6,8 +6,15 @@ use crate::piles::quota_agrees;
 use crate::piles::table_agrees;
 use std::test::*;
 use views::Coin;
+use views::CoinsView;
+use views::FlatTable;
+use views::FlatTableView;
 use views::Lock;
 use views::Outpoint;
+use views::Quota;
+use views::QuotaView;
+use views::ViewFault;
+use views::ViewFaultPartialEq;
 
 const CELL: (Outpoint, Coin) = (
     Outpoint {
@@ -61,4 +68,31 @@ fn no_cells(rt: LibcRuntime) -> Result<(), Fail> {
     check(table_agrees(rt.alloc(), &mut cells, FEW)?).note("table")?;
     check(cache_agrees(rt.alloc(), &mut cells, FEW)?).note("cache")?;
     check(quota_agrees(rt.alloc(), &mut cells, 3, FEW)?).note("quota of 3")
+}
+
+#[test]
+fn more_than_4096_cells() -> Result<(), Fail> {
+    let mut cells = [CELL; 4100];
+    let table = FlatTable::new(&mut cells);
+    check(table.capacity() == 4096)?;
+    check(table.count() == 0)
+}
+
+// A quota over more coins than its own number has room for them, and for no more.
+#[test]
+fn quota_over_coins() -> Result<(), Fail> {
+    let mut cells = [CELL; 8];
+    let mut table = FlatTable::new(&mut cells);
+    check(table.put(numbered(0), CELL.1).is_ok())?;
+    check(table.put(numbered(1), CELL.1).is_ok())?;
+    let mut quota = Quota::new(table, 1);
+    check(quota.capacity() == 2)?;
+    check(quota.put(numbered(2), CELL.1) == Err(ViewFault::Full))?;
+    check(quota.put(numbered(0), CELL.1) == Err(ViewFault::Exists))?;
+    check(quota.take(&numbered(0)).is_some())?;
+    check(quota.put(numbered(2), CELL.1).is_ok())
+}
+
+fn numbered(index: u32) -> Outpoint {
+    Outpoint { id: [0; 32], index }
 }

@@ -3,8 +3,10 @@ ghost use mathlib.Core.Path.{_≡_};
 ghost use Rattle.std.specs.Results.{Cases};
 ghost use Rattle.std.specs.Vec.{made};
 ghost use Rattle.std.specs.declared.result.Result.the-variants.{Ok, Err};
+ghost use Rattle.blockform.specs.Laws.{Accepted};
 ghost use Rattle.blockform.specs.Places.{read-block};
-ghost use Rattle.blockform.specs.Readers.{block-of, transactions-of, Block-good, Transactions-good};
+ghost use Rattle.blockform.specs.Value.{BlockValue};
+ghost use Rattle.blockform.specs.Readers.{block-of, transactions-of, next-transaction, Block-good, Transactions-good};
 use crate::MAX_BLOCK;
 use crate::fault::FormFault;
 use crate::form;
@@ -17,6 +19,7 @@ impl<'a> Block<'a> {
     pub fn read(bytes: &'a [u8]) -> Result<Block<'a>, FormFault>
         ensures good { λ r. ⌜ made r (λ b. Block-good b) ⌝ }
         ensures reads { λ r. ⌜ Cases r (λ b. read-block (now (bytes .entry)) ≡ Ok (block-of b)) (λ e. read-block (now (bytes .entry)) ≡ Err e) ⌝ }
+        ensures accepts { λ r. ⌜ Cases r (λ b. Accepted (now (bytes .entry)) (block-of b)) (λ _. (v : BlockValue) → Accepted (now (bytes .entry)) v → ⊥) ⌝ }
     {
         if bytes.len() > MAX_BLOCK {
             return Err(FormFault::OverSize);
@@ -43,6 +46,7 @@ impl<'a> Block<'a> {
         requires { ⌜ Block-good (now self) ⌝ }
         ensures good { λ r. ⌜ Transactions-good r ⌝ }
         ensures all { λ r. ⌜ transactions-of r ≡ block-of (now (self .entry)) .transactions ⌝ }
+        ensures offset { λ r. ⌜ next-transaction r ≡ 65 ⌝ }
     {
         Transactions {
             block: self.bytes,

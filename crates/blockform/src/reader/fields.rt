@@ -6,7 +6,7 @@ ghost use lib.ListN.{length};
 ghost use Rattle.std.specs.Results.{isOk};
 ghost use Rattle.compact.specs.Compact.{four-at, eight-at};
 ghost use Rattle.blockform.specs.Form.{times, input as inputForm, item as itemForm};
-ghost use Rattle.blockform.specs.Value.{spends, makes};
+ghost use Rattle.blockform.specs.Value.{spends, makes, encode-piece, Piece-within};
 ghost use Rattle.blockform.specs.Places.{id-at, input-at, input-end, output-at, item-at, item-end, end-of};
 ghost use Rattle.blockform.specs.Readers.{piece-of, offset-of};
 use crate::reader::Item;
@@ -97,6 +97,8 @@ pub fn item(b: &[u8], at: usize, inputs: bool) -> (Item<'_>, usize)
     ensures piece { λ r. ⌜ piece-of (r .0) ≡ item-at inputs (now (b .entry)) at ⌝ }
     ensures offset { λ r. ⌜ offset-of (r .0) ≡ at ⌝ }
     ensures end { λ r. ⌜ r .1 ≡ item-end inputs (now (b .entry)) at ⌝ }
+    ensures within { λ r. ⌜ Piece-within (piece-of (r .0)) ⌝ }
+    ensures long { λ r. ⌜ r .1 ≡ at + length (encode-piece (piece-of (r .0))) ⌝ }
 {
     if inputs { input(b, at) } else { output(b, at) }
 }

@@ -1,6 +1,4 @@
 use mathlib.Core.Path.{_≡_}
-use Prim.Native.Nat.{_≤_}
-use lib.ListN.{length}
 use Rattle.std.specs.Finite.{nth}
 use Rattle.maps.specs.Maps.{next-of}
 use Rattle.maps.specs.Keyed.{outpoints}

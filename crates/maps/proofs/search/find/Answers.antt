@@ -1,6 +1,6 @@
 use native.Mathlib.Omega.{arith}
-use mathlib.Core.Path.{_≡_, sym, refl, subst}
-use Prim.Native.Nat.{ℕ, _+_, _-_, _/_, _<_, _≤_}
+use mathlib.Core.Path.{_≡_, sym, subst}
+use Prim.Native.Nat.{ℕ, _+_, _-_, _/_, _<_}
 use lib.ListN.{length, getD}
 use Rattle.std.specs.declared.cmp.Ordering.the-variants.{Less}
 use Rattle.maps.specs.Keyed.{outpoints}

@@ -15,5 +15,6 @@ returns g c =
     let inv = c .loop-line .inv in
     record {
       ok = c .next-line .ensures .ok;
-      text = (record { long = λ h. absurd (omega (arith, inv .1)); lines = λ h. all-done _ _ _ (c .in-rest .ensures tt .turn .0) (inv .2) }, λ h. absurd (omega (arith, inv .1)));
+      text = record { long = λ h. absurd (omega (arith, inv .1)); lines = λ h. all-done _ _ _ (c .in-rest .ensures tt .turn .0) (inv .2) };
+      unasked = λ h. absurd (omega (arith, inv .1));
     }

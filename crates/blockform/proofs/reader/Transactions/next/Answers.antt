@@ -6,9 +6,9 @@ use Rattle.std.specs.Results.{isOk}
 use Rattle.blockform.specs.Form.{times, input, output, transaction}
 use Rattle.blockform.specs.Value.{spends, makes}
 use Rattle.blockform.specs.Places.{list-at, end-of, input-at, input-end, inputs-end, output-at, output-end, transaction-at, transaction-end}
-use Rattle.blockform.specs.Readers.{items-of, transactions-of, Items-good, Transactions-good}
+use Rattle.blockform.specs.Readers.{items-of, next-item, transactions-of, next-transaction, Items-good, Transactions-good}
 use Rattle.blockform.proofs.Steps.{Found, list-none, list-taken, times-taken, map-list, transaction-ends}
-use Rattle.blockform.proofs.Walk.{next-found}
+use Rattle.blockform.proofs.Walk.{next-found, inputs-long, transaction-long}
 use Rattle.blockform.proofs.reader.Transactions.next.Needs as need
 
 pub returns-then-self-eq0 : need.returns-then-self-eq0
@@ -47,7 +47,7 @@ add-self c =
     omega (arith, f .inside)
 
 pub returns : need.returns
-unfolding transactions-of items-of Transactions-good Items-good
+unfolding transactions-of items-of next-item next-transaction Transactions-good Items-good
 returns c =
     let r = c .args .self .now in
     let b = r .block .now in
@@ -62,11 +62,15 @@ returns c =
         transaction-at b at,
         record {
           id = c .id-at-id .ensures;
+          first-input = omega arith;
+          first-output = ap (λ k. k + 1) (mid ∙ inputs-long b (r .left) at f);
           inputs = map-list spends (input-at b) (input-end b) (getD b (at + 32) 0) (at + 32 + 1);
           outputs = ap (λ k. list-at (getD b k 0) (λ i. makes (output-at b i)) output-end (k + 1)) mid ∙ map-list makes (output-at b) output-end (getD b (inputs-end b at) 0) (inputs-end b at + 1);
           good-inputs = (f .few-in, f .ins);
           good-outputs = (omega (arith, f .few-out), ap (λ k. isOk (times (getD b k 0) (output b) (k + 1))) mid ∙ f .outs);
         },
         list-taken (transaction-at b) (transaction-end b) (r .left) at _ _ (omega arith) refl end,
+        end ∙ transaction-long b (r .left) at f,
+        refl,
       );
     }

@@ -1,4 +1,4 @@
-use mathlib.Core.Path.{_≡_, refl, sym, ap, _∙_}
+use mathlib.Core.Path.{_≡_, refl, ap, _∙_}
 use Rattle.std.specs.Of.Vec.{vec-items}
 use Rattle.cache.specs.Rules.{taken-below, put-below, spilled-below, over-below}
 use Rattle.cache.proofs.Turns.{spill-can, spill-map, kept-empty}

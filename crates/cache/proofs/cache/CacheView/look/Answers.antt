@@ -1,21 +1,11 @@
-use mathlib.Core.Path.{_≡_, refl, sym, ap, _∙_}
-use mathlib.Core.Bool.{true, false}
-use native.Mathlib.Omega.{arith}
-use Prim.Native.Nat.{_+_, _-_, _≤_, _<_}
+use mathlib.Core.Path.{refl, sym, ap, _∙_}
 use borrow.Author.Tests.{ltb-true, ltb-false}
 use lib.ListN.{length}
-use Rattle.std.specs.Of.Vec.{vec-items, vec-cap}
-use Rattle.std.specs.declared.option.Option.{Option}
-use Rattle.std.specs.declared.option.Option.the-variants.{None, Some}
-use Rattle.maps.proofs.Laws.{remove-absent}
-use Rattle.maps.specs.Keyed.{outpoints}
-use Rattle.coinsview.specs.Meaning.{Coins, coin-at, without}
-use Rattle.entries.specs.declared.table.Entry.{Entry}
-use Rattle.entries.specs.Entries.{entry-at, with-entry, spent, clean}
-use Rattle.cache.specs.Rules.{over-below, take-entry}
-use Rattle.cache.specs.Kept.{Kept}
-use Rattle.cache.specs.Rules.{room-under, below-with-room}
-use Rattle.cache.proofs.Turns.{seen, over-at, kept-moved, says-is, take-spent, take-fresh, few-over, few-new, look-clean, look-kept, look-entered, look-passed, one-counted, take-flag, roomy, some-there}
+use Rattle.std.specs.Of.Vec.{vec-items}
+use Rattle.std.specs.declared.option.Option.the-variants.{None}
+use Rattle.entries.specs.Entries.{with-entry, clean}
+use Rattle.cache.specs.Rules.{over-below}
+use Rattle.cache.proofs.Turns.{seen, over-at, kept-moved, says-is, look-clean, look-kept, look-entered, look-passed}
 use Rattle.cache.proofs.cache.CacheView.look.Needs as need
 
 pub returns-in-rest : need.returns-in-rest

@@ -1,13 +1,12 @@
-use mathlib.Core.Path.{_≡_, refl, sym, ap, subst, _∙_}
+use mathlib.Core.Path.{refl, sym, ap, subst, _∙_}
 use native.Mathlib.Omega.{arith}
 use lib.ListN.{length}
 use denote.Ref.{now}
 use Rattle.std.specs.Options.{mapped}
 use Rattle.std.specs.Finite.{nth}
 use Rattle.std.specs.Of.Vec.{vec-items}
-use Rattle.maps.specs.Maps.{Sorted}
+use Rattle.maps.specs.Maps.{Sorted, next-of}
 use Rattle.maps.specs.Keyed.{outpoints}
-use Rattle.maps.specs.Maps.{next-of}
 use Rattle.cache.specs.Rules.{over-below}
 use Rattle.cache.proofs.Turns.{kept-moved}
 use Rattle.cache.proofs.cache.CacheView.next.Needs as need
@@ -17,7 +16,7 @@ next-over-requires g c κs =
     let same = c .as-slice .ensures .value in
     record {
       ok = c .pre .0;
-      climb = subst (Sorted outpoints) (sym same) (c .pre .1 .climb);
+      sorted = subst (Sorted outpoints) (sym same) (c .pre .1 .sorted);
       within = omega (arith, c .above-start .ensures .within, ap length same);
       first = ap (λ x. next-of outpoints x (c .as-slice .result .now)) (c .copied .ensures) ∙ ap (λ x. next-of outpoints (mapped now (c .args .from)) x) same ∙ c .above-start .ensures .first ∙ ap (λ x. nth x (c .above-start .result)) (sym same);
     }

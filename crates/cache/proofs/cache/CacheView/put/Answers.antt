@@ -2,19 +2,13 @@ use mathlib.Core.Path.{_≡_, refl, sym, ap, _∙_}
 use native.Mathlib.Omega.{arith}
 use Prim.Native.Nat.{_+_, _≤_, _<_}
 use lib.ListN.{length}
-use Rattle.std.specs.Of.Vec.{vec-items, vec-cap}
-use Rattle.std.specs.declared.option.Option.{Option}
+use Rattle.std.specs.Of.Vec.{vec-items}
 use Rattle.std.specs.declared.option.Option.the-variants.{None, Some}
-use Rattle.std.specs.declared.result.Result.the-variants.{Ok, Err}
-use Rattle.coinsview.specs.Meaning.{Coins, coin-at, with-coin}
-use Rattle.coinsview.specs.declared.fault.ViewFault.the-variants.{Exists, Full}
+use Rattle.coinsview.specs.Meaning.{coin-at, with-coin}
 use Rattle.coinsview.proofs.Puts.{put-exists, put-full, put-yes}
-use Rattle.entries.specs.declared.table.Entry.{Entry}
-use Rattle.entries.specs.Entries.{entry-at, with-entry, created}
-use Rattle.cache.specs.Rules.{over-below, with-room, put-entry}
-use Rattle.cache.specs.Kept.{Kept}
-use Rattle.cache.specs.Rules.{room-under, below-with-room}
-use Rattle.cache.proofs.Turns.{seen, over-at, kept-moved, says-is, put-replaced, put-created, roomy, some-there}
+use Rattle.entries.specs.Entries.{with-entry, created}
+use Rattle.cache.specs.Rules.{over-below, with-room, put-entry, room-under, below-with-room}
+use Rattle.cache.proofs.Turns.{seen, over-at, kept-moved, says-is, put-replaced, put-created, roomy}
 use Rattle.cache.proofs.cache.CacheView.put.Needs as need
 
 pub returns-in-Some : need.returns-in-Some

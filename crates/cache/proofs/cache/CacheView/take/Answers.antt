@@ -1,21 +1,17 @@
 use mathlib.Core.Path.{_≡_, refl, sym, ap, _∙_}
 use mathlib.Core.Bool.{true, false}
 use native.Mathlib.Omega.{arith}
-use Prim.Native.Nat.{ℕ, _+_, _-_, _≤_, _<_}
-use lib.ListN.{length}
-use Rattle.std.specs.Of.Vec.{vec-items, vec-cap}
+use Prim.Native.Nat.{ℕ, _-_}
+use Rattle.std.specs.Of.Vec.{vec-items}
 use Rattle.std.specs.declared.option.Option.{Option}
 use Rattle.std.specs.declared.option.Option.the-variants.{None, Some}
 use Rattle.coins.specs.declared.coin.Coin.{Coin}
 use Rattle.maps.proofs.Laws.{remove-absent}
 use Rattle.maps.specs.Keyed.{outpoints}
-use Rattle.coinsview.specs.Meaning.{Coins, coin-at, without}
-use Rattle.entries.specs.declared.table.Entry.{Entry}
-use Rattle.entries.specs.Entries.{entry-at, with-entry, spent, clean}
-use Rattle.cache.specs.Rules.{over-below, with-room, take-entry}
-use Rattle.cache.specs.Kept.{Kept}
-use Rattle.cache.specs.Rules.{room-under, below-with-room}
-use Rattle.cache.proofs.Turns.{seen, over-at, kept-moved, says-is, take-spent, take-fresh, few-over, few-new, look-clean, look-kept, look-entered, look-passed, one-counted, take-flag, roomy, some-there}
+use Rattle.coinsview.specs.Meaning.{coin-at, without}
+use Rattle.entries.specs.Entries.{with-entry, spent}
+use Rattle.cache.specs.Rules.{over-below, with-room, take-entry, room-under, below-with-room}
+use Rattle.cache.proofs.Turns.{seen, over-at, kept-moved, says-is, take-spent, take-fresh, few-over, few-new, one-counted, take-flag, roomy}
 use Rattle.cache.proofs.cache.CacheView.take.Needs as need
 
 pub returns-in-rest : need.returns-in-rest

@@ -1,6 +1,6 @@
 use mathlib.Core.Path.{_≡_, sym, ap, _∙_}
 use native.Mathlib.Omega.{arith}
-use Prim.Native.Nat.{ℕ, _+_, _<_, suc}
+use Prim.Native.Nat.{_+_, suc}
 use Rattle.std.specs.Finite.{nth}
 use Rattle.maps.specs.Maps.{place}
 use Rattle.maps.specs.Keyed.{outpoints}

@@ -1,9 +1,4 @@
-use mathlib.Core.Path.{sym, subst}
 use native.Mathlib.Nat.{sub-zero}
-use lib.ListN.{take}
-use Rattle.maps.specs.Maps.{Sorted}
-use Rattle.maps.specs.Keyed.{outpoints}
-use Rattle.maps.specs.Search.{Found}
 use Rattle.coinsview.proofs.table.FlatTable.find.Needs as need
 
 pub find-requires : need.find-requires

@@ -1,4 +1,4 @@
-use mathlib.Core.Path.{_≡_, refl, sym}
+use mathlib.Core.Path.{refl, sym}
 use native.Mathlib.Omega.{arith}
 use Rattle.coinsview.proofs.Tables.{spot, coin-there}
 use Rattle.coinsview.proofs.table.FlatTableView.look.Needs as need

@@ -1,8 +1,8 @@
-use mathlib.Core.Path.{_≡_, refl, sym, ap, _∙_}
+use mathlib.Core.Path.{_≡_, refl}
 use native.Mathlib.Omega.{arith}
 use Prim.Native.Nat.{_+_, _<_, _≤_}
 use lib.ListN.{length}
-use Rattle.coinsview.specs.Meaning.{coin-at, with-coin}
+use Rattle.coinsview.specs.Meaning.{with-coin}
 use Rattle.coinsview.specs.Table.{used-cells}
 use Rattle.coinsview.proofs.Puts.{put-exists, put-yes}
 use Rattle.coinsview.proofs.Tables.{blank, many, gap, grown, ok-with}

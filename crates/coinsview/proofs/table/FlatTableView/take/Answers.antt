@@ -1,10 +1,10 @@
-use mathlib.Core.Path.{_≡_, refl, sym, ap, _∙_}
+use mathlib.Core.Path.{_≡_, refl, sym}
 use native.Mathlib.Omega.{arith}
-use Prim.Native.Nat.{_+_, _-_, _<_, _≤_}
+use Prim.Native.Nat.{_-_, _≤_}
 use lib.ListN.{length}
 use Rattle.maps.specs.Keyed.{outpoints}
 use Rattle.maps.proofs.Laws.{remove-absent}
-use Rattle.coinsview.specs.Meaning.{coin-at, without}
+use Rattle.coinsview.specs.Meaning.{without}
 use Rattle.coinsview.specs.Table.{used-cells}
 use Rattle.coinsview.proofs.Tables.{spot, coin-there, shrunk, ok-without}
 use Rattle.coinsview.proofs.table.FlatTableView.take.Needs as need

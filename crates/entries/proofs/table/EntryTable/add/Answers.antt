@@ -1,12 +1,10 @@
-use mathlib.Core.Path.{_≡_, refl, sym, ap, subst, _∙_}
-use mathlib.Core.Bool.{true, cond}
+use mathlib.Core.Path.{_≡_, sym, ap, _∙_}
+use mathlib.Core.Bool.{cond}
 use native.Mathlib.Omega.{arith}
-use Prim.Native.Nat.{_≤_, _<_}
-use lib.ListN.{length}
+use Prim.Native.Nat.{_<_}
 use Rattle.std.specs.Holes.{inserted}
 use Rattle.std.specs.Of.Vec.{vec-items, vec-len, vec-cap}
 use Rattle.maps.specs.Keyed.{outpoints}
-use Rattle.maps.specs.Maps.{place}
 use Rattle.maps.proofs.Laws.{place-within, insert-place}
 use Rattle.entries.proofs.table.EntryTable.add.Needs as need
 

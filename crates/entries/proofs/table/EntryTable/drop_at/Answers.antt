@@ -1,7 +1,4 @@
-use mathlib.Core.Path.{_≡_, refl, sym, ap, subst, _∙_}
-use native.Mathlib.Omega.{arith}
-use Rattle.std.specs.Holes.{removed}
-use Rattle.std.specs.Of.Vec.{vec-items, vec-len, vec-cap}
+use mathlib.Core.Path.{_∙_}
 use Rattle.entries.proofs.Places.{removed-at}
 use Rattle.entries.proofs.table.EntryTable.drop_at.Needs as need
 

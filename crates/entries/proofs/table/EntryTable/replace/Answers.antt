@@ -1,4 +1,4 @@
-use mathlib.Core.Path.{_≡_, refl, ap, _∙_}
+use mathlib.Core.Path.{refl, ap, _∙_}
 use Rattle.std.specs.Of.Vec.{vec-items}
 use Rattle.entries.specs.Entries.{with-entry}
 use Rattle.entries.proofs.Places.{set-at}

@@ -1,4 +1,4 @@
-use mathlib.Core.Path.{_≡_, refl}
+use mathlib.Core.Path.{refl}
 use Rattle.entries.proofs.Places.{set-at}
 use Rattle.entries.proofs.table.EntryTable.spend.Needs as need
 
