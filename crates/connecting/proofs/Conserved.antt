@@ -68,7 +68,7 @@ pub put-none : (w : Option Coin) (b : Bool) (u : Unit) → put-by w b ≡ Ok u �
 put-none None b u h = refl
 put-none (Some c) b u h = no-err _ u h
 
-view-ok : {X : Type 0} (r : Result X ViewFault) (x : X) → of-view r ≡ Ok x → r ≡ Ok x
+pub view-ok : {X : Type 0} (r : Result X ViewFault) (x : X) → of-view r ≡ Ok x → r ≡ Ok x
 view-ok (Ok y) x h = let e : y ≡ x = cc in ap Ok e
 view-ok (Err f) x h = no-err _ x h
 

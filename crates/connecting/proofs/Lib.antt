@@ -1,5 +1,8 @@
+pub mod Applying
 pub mod Conserved
 pub mod Halvings
 pub mod Steps
 pub mod Tests
+pub mod Turns
 pub mod Undone
+pub mod Worths

@@ -1,3 +1,4 @@
+pub mod Applied
 pub mod Parts
 pub mod Refusals
 pub mod Rules

@@ -1,4 +1,11 @@
 // The way back from a block, by its undo entries.
+ghost use mathlib.Core.Path.{_≡_};
+ghost use mathlib.Core.Bool.{true};
+ghost use mathlib.Core.List.{[]};
+ghost use Rattle.std.specs.Options.{Cases as BySome};
+ghost use Rattle.std.specs.declared.option.Option.the-variants.{None, Some};
+ghost use Rattle.undo.specs.Entries.{entries};
+ghost use Rattle.connecting.specs.Undoing.{undone, found, back};
 use coins::equal::CoinPartialEq;
 use coinsview::view::CoinsView;
 use undo::Record;
@@ -14,7 +21,10 @@ pub struct Unwound {
 // Takes one entry back: a coin that was made is taken, one that was spent is put. Says whether it was found as it was left.
 fn take_back<V: CoinsView>(view: &mut V, record: &Record) -> bool
     requires { ⌜ V·CoinsView .ok (now view) ⌝ }
-    ensures { λ _. ⌜ V·CoinsView .ok (now (view .exit)) ⌝ }
+    ensures well { λ _. ⌜ V·CoinsView .ok (now (view .exit)) ⌝ }
+    ensures fixed { λ _. ⌜ V·CoinsView .most (now (view .exit)) ≡ V·CoinsView .most (now (view .entry)) ⌝ }
+    ensures value { λ r. ⌜ r ≡ found (V·CoinsView .most (now (view .entry))) (now («record» .entry)) (V·CoinsView .coins (now (view .entry))) ⌝ }
+    ensures map { λ _. ⌜ V·CoinsView .coins (now (view .exit)) ≡ undone (V·CoinsView .most (now (view .entry))) (now («record» .entry)) (V·CoinsView .coins (now (view .entry))) ⌝ }
 {
     match record {
         Record::Mark(_) => true,
@@ -29,7 +39,9 @@ fn take_back<V: CoinsView>(view: &mut V, record: &Record) -> bool
 // Works from the newest entry to the first mark, and frees them. None where there is no mark.
 pub fn unwind<V: CoinsView>(view: &mut V, chain: &mut Undo) -> Option<Unwound>
     requires { ⌜ V·CoinsView .ok (now view) ⌝ }
-    ensures { λ _. ⌜ V·CoinsView .ok (now (view .exit)) ⌝ }
+    ensures well { λ _. ⌜ V·CoinsView .ok (now (view .exit)) ⌝ }
+    ensures fixed { λ _. ⌜ V·CoinsView .most (now (view .exit)) ≡ V·CoinsView .most (now (view .entry)) ⌝ }
+    ensures value { λ r. ⌜ BySome r ((back (V·CoinsView .most (now (view .entry))) (entries (now (chain .entry))) (V·CoinsView .coins (now (view .entry))) true ≡ None) × (entries (now (chain .exit)) ≡ [])) (λ u. back (V·CoinsView .most (now (view .entry))) (entries (now (chain .entry))) (V·CoinsView .coins (now (view .entry))) true ≡ Some (record { previous = u .previous; below = entries (now (chain .exit)); coins = V·CoinsView .coins (now (view .exit)); clean = u .clean })) ⌝ }
 {
     let mut clean = true;
     while let Some(record) = chain.pop() {
