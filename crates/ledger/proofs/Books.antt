@@ -27,7 +27,8 @@ use Rattle.connecting.specs.Undoing.{Back, undone, found, back}
 use Rattle.connecting.specs.Value.{value-in}
 use Rattle.connecting.proofs.Conserved.{then-ok, ok-same, effect-value}
 use Rattle.ledger.specs.declared.Ledger.{Ledger}
-use Rattle.ledger.specs.Book.{Terms, Book, tip-id, accept, coins-after, burned-by, replay, coins-of, all-burned, all-subsidies, entries-needed}
+use Rattle.ledger.specs.declared.fault.LedgerFault.{LedgerFault}
+use Rattle.ledger.specs.Book.{Terms, Book, tip-id, accept, coins-after, burned-by, replay, coins-of, all-burned, all-subsidies, entries-needed, settled}
 use Rattle.ledger.specs.Standing.{All-accepted, Unwinds, Stands}
 
 pub clash : {X : Type 0} (b : Bool) → b ≡ true → b ≡ false → X
@@ -112,3 +113,24 @@ module _ {V C : Type 0} (v : ViewGhosts V) (c : ConditionGhosts C) where
     accepted = s .accepted;
     chain = subst (Unwinds (k .terms) (k .blocks) (k .kept)) (sym (e .chain)) (s .chain);
   }
+
+  -- fewer blocks are kept
+  pub settle-law : (k : Book) (a z : Ledger V C) (n : ℕ) → Stands v c k a → n < a .kept → z .started ≡ a .started → z .view ≡ a .view → z .condition ≡ a .condition → z .terms ≡ a .terms → z .tip ≡ a .tip → z .kept ≡ n → entries (z .chain) ≡ newest n (entries (a .chain)) → Stands v c (settled k n) z × (_≡_ {A = Result ℕ LedgerFault} (Ok n) (Ok (min n (k .kept))))
+  settle-law k a z n s l zs zv zc zt zp zk ze =
+      let less : min n (k .kept) ≡ n = omega (arith, s .kept, l) in (
+        record {
+          started = zs ∙ s .started;
+          room = ap (v .most) zv ∙ s .room;
+          opens = ap (c .opens) zc ∙ s .opens;
+          halving = ap (λ x. x .halving) zt ∙ s .halving;
+          maturity = ap (λ x. x .maturity) zt ∙ s .maturity;
+          last = ap (λ x. x .last) zt ∙ s .last;
+          coins = ap (v .coins) zv ∙ s .coins;
+          tip = ap (λ x. x .id) zp ∙ s .tip;
+          height = ap (λ x. x .height) zp ∙ s .height;
+          kept = zk ∙ sym less;
+          accepted = s .accepted;
+          chain = subst (λ j. Unwinds (k .terms) (k .blocks) j (entries (z .chain))) (sym less) (subst (Unwinds (k .terms) (k .blocks) n) (sym ze) (unwinds-newest (k .terms) (k .blocks) (k .kept) n (entries (a .chain)) (omega (arith, s .kept, l)) (s .chain)));
+        },
+        ap Ok (sym less),
+      )

@@ -1,1 +1,3 @@
+pub mod Balances
 pub mod Books
+pub mod Connects

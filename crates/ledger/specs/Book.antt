@@ -105,15 +105,19 @@ abbrev pub with-block : Book → Result (BlockValue × Sums) BlockFault → Book
 with-block k (Ok r) = record { terms = k .terms; blocks = r .0 ∷ k .blocks; kept = suc (k .kept) }
 with-block k (Err f) = k
 
-abbrev pub told : Book → Result (BlockValue × Sums) BlockFault → Result Connected LedgerFault
+abbrev pub told : Book → Result (BlockValue × Sums) BlockFault → Result Connected BlockFault
 told k (Ok r) = Ok (record { height = length (k .blocks) + 1; made = r .1 .made; spent = r .1 .spent; fees = r .1 .fees; burned = r .1 .burned })
-told k (Err f) = Err (Block f)
+told k (Err f) = Err f
+
+abbrev pub of-block : {X : Type 0} → Result X BlockFault → Result X LedgerFault
+of-block (Ok x) = Ok x
+of-block (Err f) = Err (Block f)
 
 abbrev pub connected : Book → List ℕ → Book
 connected k bytes = with-block k (connect-bytes k bytes)
 
 abbrev pub connect-answer : Book → List ℕ → Result Connected LedgerFault
-connect-answer k bytes = told k (connect-bytes k bytes)
+connect-answer k bytes = of-block (told k (connect-bytes k bytes))
 
 -- ---- disconnect: refused where none is kept, else the last block is dropped
 
@@ -149,3 +153,7 @@ one-held l c b = cond (same-lock (c .lock) l) (record { coins = 1 + b .coins; va
 abbrev pub held-by : Lock → Coins → Balance
 held-by l [] = record { coins = 0; value = 0 }
 held-by l (p ∷ m) = one-held l (p .1) (held-by l m)
+
+-- a balance with a coin more, if it is the lock's
+abbrev pub with-held : Lock → Coin → Balance → Balance
+with-held l c b = cond (same-lock (c .lock) l) (record { coins = b .coins + 1; value = b .value + c .value }) b
