@@ -61,7 +61,7 @@ module _ (opens : Lock → List ℕ → ℕ → Bool) (maturity h i : ℕ) (k : 
   pub input-refused : (paid : ℕ) (e : TransactionFault) → ps ≡ spends (record { outpoint = k; witness = w }) ∷ qs → r ≡ spend opens maturity h (coin-at k m) w → n ≡ cond (isOk r) (without k m) m → Placed i r o → o ≡ Err e → (spend-all opens maturity h i (inputs-in ps) m paid ≡ Err e) × (n ≡ m)
   input-refused paid e hands value map place err = (
     ap (λ x. spend-all opens maturity h i (inputs-in x) m paid) hands
-    ∙ ap (λ x. then x (λ c. spend-all opens maturity h (i + 1) (inputs-in qs) (without k m) (paid + c .value))) (ap (at-item i) (sym value) ∙ sym (placed-is i r o place) ∙ err),
+        ∙ ap (λ x. then x (λ c. spend-all opens maturity h (i + 1) (inputs-in qs) (without k m) (paid + c .value))) (ap (at-item i) (sym value) ∙ sym (placed-is i r o place) ∙ err),
     map ∙ ap (λ b. cond b (without k m) m) (placed-err i r o e place err),
   )
 
@@ -71,11 +71,10 @@ module _ (opens : Lock → List ℕ → ℕ → Bool) (maturity h i : ℕ) (k : 
       let is : r ≡ Ok c = placed-ok i r o c place ok in
       let gone : n ≡ without k m = map ∙ ap (λ x. cond (isOk x) (without k m) m) is in
       let noted : fs ≡ Spent k c ∷ es = after ∙ push-room (Spent k c) es less in
-      let there : coin-at k m ≡ Some c = spend-there opens maturity h (coin-at k m) w c (sym value ∙ is) in
-      (
+      let there : coin-at k m ≡ Some c = spend-there opens maturity h (coin-at k m) w c (sym value ∙ is) in (
         ap (λ x. spend-all opens maturity h i (inputs-in x) m paid) hands
-        ∙ ap (λ x. then (at-item i x) (λ d. spend-all opens maturity h (i + 1) (inputs-in qs) (without k m) (paid + d .value))) (sym value ∙ is)
-        ∙ ap (λ x. spend-all opens maturity h (i + 1) (inputs-in qs) x (paid + c .value)) (sym gone),
+            ∙ ap (λ x. then (at-item i x) (λ d. spend-all opens maturity h (i + 1) (inputs-in qs) (without k m) (paid + d .value))) (sym value ∙ is)
+            ∙ ap (λ x. spend-all opens maturity h (i + 1) (inputs-in qs) x (paid + c .value)) (sym gone),
         ap (λ x. back room x n true) noted ∙ ap (λ x. back room (Spent k c ∷ es) x true) gone ∙ spent-back room es k c m sorted few there,
         omega (arith, ap length noted),
         omega (arith, ap (λ x. length (inputs-in x)) hands),
@@ -96,11 +95,10 @@ output-made room h k y b c m n es fs r o u coin value map place ok after less =
     let is : r ≡ Ok u = placed-ok (k .index) r o u place ok in
     let put : n ≡ with-coin k c m = map ∙ ap (λ x. cond (isOk x) (with-coin k c m) m) is in
     let noted : fs ≡ Made k c ∷ es = after ∙ push-room (Made k c) es less in
-    let none : coin-at k m ≡ None = put-none (coin-at k m) (ltb (length m) room) u (view-ok _ u (sym value ∙ is)) in
-    (
+    let none : coin-at k m ≡ None = put-none (coin-at k m) (ltb (length m) room) u (view-ok _ u (sym value ∙ is)) in (
       ap (λ x. make room h (k .id) (k .index) x m) coin
-      ∙ ap (λ x. then (at-item (k .index) x) (λ _. Ok (with-coin k c m))) (sym value ∙ is)
-      ∙ ap Ok (sym put),
+          ∙ ap (λ x. then (at-item (k .index) x) (λ _. Ok (with-coin k c m))) (sym value ∙ is)
+          ∙ ap Ok (sym put),
       ap (λ x. back room x n true) noted ∙ ap (λ x. back room (Made k c ∷ es) x true) put ∙ made-back room es k c m none,
       omega (arith, ap length noted),
     )
@@ -123,8 +121,7 @@ module _ (room h i : ℕ) (id : List ℕ) (b : Bool) (y : OutputValue) (ps qs : 
   -- it burns
   pub output-burned : y .lock .kind ≡ 0 → (make-all room h id b i (outputs-in ps) m ≡ make-all room h id b (i + 1) (outputs-in qs) m) × (coins-made (outputs-in ps) ≡ coins-made (outputs-in qs)) × (value-burned (outputs-in ps) ≡ y .value + value-burned (outputs-in qs))
   output-burned k =
-      let e : burns y ≡ true = eq-eqb _ 0 k in
-      (
+      let e : burns y ≡ true = eq-eqb _ 0 k in (
         one true e,
         ap (λ x. coins-made (outputs-in x)) hands ∙ ap (λ x. cond x (coins-made (outputs-in qs)) (1 + coins-made (outputs-in qs))) e,
         ap (λ x. value-burned (outputs-in x)) hands ∙ ap (λ x. cond x (y .value + value-burned (outputs-in qs)) (value-burned (outputs-in qs))) e,

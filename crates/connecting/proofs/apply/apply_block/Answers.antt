@@ -115,7 +115,7 @@ returns g c =
       well = q .well;
       fixed = q .fixed ∙ e .fixed;
       value =
-        effect-done (setting (v .most (a .view .now)) (g .C·SpendCondition .opens (a .condition .now)) (a .site)) (a .site .height) x (block-of (a .block .now) .transactions) us (v .coins (a .view .now)) is (v .coins (c .apply-coinbase .last .view)) (e .value .0) (v .coins (c .apply-others .last .view)) (c .in-Continue-sums .sums) rest _ enough (ap (λ n. n + c .in-Continue-sums .sums .made) (e .value .1)) refl refl (omega (arith, e .value .2, c .subsidy .ensures, c .outputs-worth-claimed .ensures));
+          effect-done (setting (v .most (a .view .now)) (g .C·SpendCondition .opens (a .condition .now)) (a .site)) (a .site .height) x (block-of (a .block .now) .transactions) us (v .coins (a .view .now)) is (v .coins (c .apply-coinbase .last .view)) (e .value .0) (v .coins (c .apply-others .last .view)) (c .in-Continue-sums .sums) rest _ enough (ap (λ n. n + c .in-Continue-sums .sums .made) (e .value .1)) refl refl (omega (arith, e .value .2, c .subsidy .ensures, c .outputs-worth-claimed .ensures));
       back = back-on (v .most (a .view .now)) (v .most (c .apply-coinbase .last .view)) (entries (c .apply-others .last .chain)) (entries (c .apply-coinbase .last .chain)) (v .coins (c .apply-others .last .view)) (v .coins (c .apply-coinbase .last .view)) (e .fixed) (q .back) ∙ e .back;
       long = omega (arith, ap transactions-needs is, e .long, q .long);
     }

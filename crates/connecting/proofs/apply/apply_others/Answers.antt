@@ -42,8 +42,7 @@ loop-tx-again g c =
     let opens = g .C·SpendCondition .opens (a .condition .now) in
     let few = at-placed (l .t) (c .apply-spending .result) (c .at-transaction .result) (λ (b : Sums). (b .made ≤ 64) × (b .spent ≤ 64) × (b .fees ≤ 64 * 2100000000000000) × (b .burned ≤ 2100000000000000)) (c .in-Continue-one .one) (c .at-transaction .ensures) (c .in-Continue-one .was tt) (c .apply-spending .ensures .few) in
     let long = at-placed (l .t) (c .apply-spending .result) (c .at-transaction .result) (λ (b : Sums). length (entries (c .apply-spending .last .chain)) ≡ length (entries (l .chain)) + spending-needs x) (c .in-Continue-one .one) (c .at-transaction .ensures) (c .in-Continue-one .was tt) (c .apply-spending .ensures .long) in
-    let value = subst (λ k. Cases (c .apply-spending .result) (λ b. spending (setting k opens (a .site)) (a .site .height) x (v .coins (l .view)) ≡ Ok (v .coins (c .apply-spending .last .view), b)) (λ f. spending (setting k opens (a .site)) (a .site .height) x (v .coins (l .view)) ≡ Err f)) (l .inv .1) (c .apply-spending .ensures .value) in
-    (
+    let value = subst (λ k. Cases (c .apply-spending .result) (λ b. spending (setting k opens (a .site)) (a .site .height) x (v .coins (l .view)) ≡ Ok (v .coins (c .apply-spending .last .view), b)) (λ f. spending (setting k opens (a .site)) (a .site .height) x (v .coins (l .view)) ≡ Err f)) (l .inv .1) (c .apply-spending .ensures .value) in (
       c .apply-spending .ensures .well,
       c .apply-spending .ensures .fixed ∙ l .inv .1,
       c .next .ensures .good,

@@ -63,7 +63,7 @@ returns g c =
       well = q .well;
       fixed = q .fixed ∙ e .fixed;
       value =
-        spending-done (setting (v .most (a .view .now)) (g .C·SpendCondition .opens (a .condition .now)) (a .site)) (a .site .height) x (v .coins (a .view .now)) (v .coins (c .spend-inputs .last .view)) (c .in-Continue-paid .paid) (e .value) (v .most (c .spend-inputs .last .view)) (e .fixed) enough (v .coins (c .make-outputs .last .view)) (record { made = c .in-Continue-made .made; spent = c .len .result; fees = c .in-Continue-paid .paid - c .outputs-worth-worth .result; burned = c .in-Continue-made .burned }) (q .value .0) (q .value .1) (c .len .ensures .is ∙ sym (c .pre .whole)) (ap (λ n. c .in-Continue-paid .paid - n) (c .outputs-worth-worth .ensures)) (q .value .2);
+          spending-done (setting (v .most (a .view .now)) (g .C·SpendCondition .opens (a .condition .now)) (a .site)) (a .site .height) x (v .coins (a .view .now)) (v .coins (c .spend-inputs .last .view)) (c .in-Continue-paid .paid) (e .value) (v .most (c .spend-inputs .last .view)) (e .fixed) enough (v .coins (c .make-outputs .last .view)) (record { made = c .in-Continue-made .made; spent = c .len .result; fees = c .in-Continue-paid .paid - c .outputs-worth-worth .result; burned = c .in-Continue-made .burned }) (q .value .0) (q .value .1) (c .len .ensures .is ∙ sym (c .pre .whole)) (ap (λ n. c .in-Continue-paid .paid - n) (c .outputs-worth-worth .ensures)) (q .value .2);
       back = back-on (v .most (a .view .now)) (v .most (c .spend-inputs .last .view)) (entries (c .make-outputs .last .chain)) (entries (c .spend-inputs .last .chain)) (v .coins (c .make-outputs .last .view)) (v .coins (c .spend-inputs .last .view)) (e .fixed) (q .back) ∙ e .back;
       long = omega (arith, q .long, e .long);
       few = (q .few .0, c .len .ensures .few, omega (arith, e .few), q .few .1);

@@ -29,38 +29,36 @@ loop-value-again g c =
     let room = v .most (a .view .now) in
     let s = output-sums room (a .site .height) (l .index) (a .tx .now .id .now) (a .coinbase) y ps qs (v .coins (l .view)) hands in
     elim (c .if-lock-eq0 .came) [
-      then-lock-eq0 w ↦
-        let t = output-burned room (a .site .height) (l .index) (a .tx .now .id .now) (a .coinbase) y ps qs (v .coins (l .view)) hands (w .if-lock-eq0 .taken) in
-        (
-          subst (λ z. v .ok z) (sym (w .view-is)) (l .inv .0),
-          ap (v .most) (w .view-is) ∙ l .inv .1,
-          c .next .ensures .good,
-          omega (arith, l .inv .3, s .1),
-          omega (arith, l .inv .4, w .made-is),
-          omega (arith, l .inv .5, s .0, w .burned-is),
-          omega (arith, l .inv .6, t .1, w .made-is),
-          omega (arith, l .inv .7, t .2, w .burned-is),
-          omega (arith, l .inv .8, ap (λ z. length (entries z)) (w .chain-is), w .made-is),
-          l .inv .9 ∙ t .0 ∙ ap (λ z. make-all room (a .site .height) (a .tx .now .id .now) (a .coinbase) (l .index + 1) (outputs-in qs) (v .coins z)) (sym (w .view-is)),
-          back-same room room _ _ _ _ refl (ap entries (w .chain-is)) (ap (v .coins) (w .view-is)) ∙ l .inv .10,
-        )
+      | then-lock-eq0 w ↦
+          let t = output-burned room (a .site .height) (l .index) (a .tx .now .id .now) (a .coinbase) y ps qs (v .coins (l .view)) hands (w .if-lock-eq0 .taken) in (
+            subst (λ z. v .ok z) (sym (w .view-is)) (l .inv .0),
+            ap (v .most) (w .view-is) ∙ l .inv .1,
+            c .next .ensures .good,
+            omega (arith, l .inv .3, s .1),
+            omega (arith, l .inv .4, w .made-is),
+            omega (arith, l .inv .5, s .0, w .burned-is),
+            omega (arith, l .inv .6, t .1, w .made-is),
+            omega (arith, l .inv .7, t .2, w .burned-is),
+            omega (arith, l .inv .8, ap (λ z. length (entries z)) (w .chain-is), w .made-is),
+            l .inv .9 ∙ t .0 ∙ ap (λ z. make-all room (a .site .height) (a .tx .now .id .now) (a .coinbase) (l .index + 1) (outputs-in qs) (v .coins z)) (sym (w .view-is)),
+            back-same room room _ _ _ _ refl (ap entries (w .chain-is)) (ap (v .coins) (w .view-is)) ∙ l .inv .10,
+          )
       | else-lock-eq0·in-Continue-make-one w ↦
-        let e = w .in-Continue-make-one .ensures tt in
-        let t = output-put room (a .site .height) (l .index) (a .tx .now .id .now) (a .coinbase) y ps qs (v .coins (l .view)) hands (v .most (l .view)) (l .inv .1) (w .if-lock-eq0 .left) (v .coins (w .make-one .last .view)) (e .value) in
-        let k = output-counts room (a .site .height) (l .index) (a .tx .now .id .now) (a .coinbase) y ps qs (v .coins (l .view)) hands (v .most (l .view)) (l .inv .1) (w .if-lock-eq0 .left) in
-        (
-          subst (λ z. v .ok z) (sym (w .view-is)) (e .well),
-          ap (v .most) (w .view-is) ∙ e .fixed ∙ l .inv .1,
-          c .next .ensures .good,
-          omega (arith, l .inv .3, s .1),
-          omega (arith, l .inv .4, w .made-is),
-          omega (arith, l .inv .5, s .0, w .burned-is),
-          omega (arith, l .inv .6, k .0, w .made-is),
-          omega (arith, l .inv .7, k .1, w .burned-is),
-          omega (arith, l .inv .8, ap (λ z. length (entries z)) (w .chain-is), e .long, w .made-is),
-          l .inv .9 ∙ t ∙ ap (λ z. make-all room (a .site .height) (a .tx .now .id .now) (a .coinbase) (l .index + 1) (outputs-in qs) (v .coins z)) (sym (w .view-is)),
-          back-same room room _ _ _ _ refl (ap entries (w .chain-is)) (ap (v .coins) (w .view-is)) ∙ back-on room (v .most (l .view)) (entries (w .make-one .last .chain)) (entries (l .chain)) (v .coins (w .make-one .last .view)) (v .coins (l .view)) (l .inv .1) (e .back) ∙ l .inv .10,
-        )
+          let e = w .in-Continue-make-one .ensures tt in
+          let t = output-put room (a .site .height) (l .index) (a .tx .now .id .now) (a .coinbase) y ps qs (v .coins (l .view)) hands (v .most (l .view)) (l .inv .1) (w .if-lock-eq0 .left) (v .coins (w .make-one .last .view)) (e .value) in
+          let k = output-counts room (a .site .height) (l .index) (a .tx .now .id .now) (a .coinbase) y ps qs (v .coins (l .view)) hands (v .most (l .view)) (l .inv .1) (w .if-lock-eq0 .left) in (
+            subst (λ z. v .ok z) (sym (w .view-is)) (e .well),
+            ap (v .most) (w .view-is) ∙ e .fixed ∙ l .inv .1,
+            c .next .ensures .good,
+            omega (arith, l .inv .3, s .1),
+            omega (arith, l .inv .4, w .made-is),
+            omega (arith, l .inv .5, s .0, w .burned-is),
+            omega (arith, l .inv .6, k .0, w .made-is),
+            omega (arith, l .inv .7, k .1, w .burned-is),
+            omega (arith, l .inv .8, ap (λ z. length (entries z)) (w .chain-is), e .long, w .made-is),
+            l .inv .9 ∙ t ∙ ap (λ z. make-all room (a .site .height) (a .tx .now .id .now) (a .coinbase) (l .index + 1) (outputs-in qs) (v .coins z)) (sym (w .view-is)),
+            back-same room room _ _ _ _ refl (ap entries (w .chain-is)) (ap (v .coins) (w .view-is)) ∙ back-on room (v .most (l .view)) (entries (w .make-one .last .chain)) (entries (l .chain)) (v .coins (w .make-one .last .view)) (v .coins (l .view)) (l .inv .1) (e .back) ∙ l .inv .10,
+          )
     ]
 
 pub returns-in-Break-make-one : need.returns-in-Break-make-one

@@ -27,8 +27,7 @@ loop-id-again g c =
     let one : length (inputs-in (items-of (l .inputs))) ≡ length (inputs-in (items-of (c .next .last .self))) + 1 = omega (arith, ap (λ x. length (inputs-in x)) hands) in
     let less : length (entries (l .chain)) < 512 = omega (arith, l .inv .5, c .pre .room, one) in
     let t =
-      input-spent (g .C·SpendCondition .opens (a .condition .now)) (a .site .maturity) (a .site .height) (l .item) at (c .in-Some-Input .witness .now) (items-of (l .inputs)) (items-of (c .next .last .self)) (v .coins (l .view)) (v .coins (c .spend .last .view)) (c .spend .result) (c .at-item .result) (v .most (a .view .now)) (l .paid) (c .in-Continue-coin .coin) (entries (l .chain)) (entries (c .push .last .self)) hands (c .spend .ensures .value) (c .spend .ensures .map) (c .at-item .ensures) (c .in-Continue-coin .was tt) (c .push .ensures .after) less (v .sorted (l .view) (l .inv .0)) few in
-    (
+    input-spent (g .C·SpendCondition .opens (a .condition .now)) (a .site .maturity) (a .site .height) (l .item) at (c .in-Some-Input .witness .now) (items-of (l .inputs)) (items-of (c .next .last .self)) (v .coins (l .view)) (v .coins (c .spend .last .view)) (c .spend .result) (c .at-item .result) (v .most (a .view .now)) (l .paid) (c .in-Continue-coin .coin) (entries (l .chain)) (entries (c .push .last .self)) hands (c .spend .ensures .value) (c .spend .ensures .map) (c .at-item .ensures) (c .in-Continue-coin .was tt) (c .push .ensures .after) less (v .sorted (l .view) (l .inv .0)) few in (
       c .spend .ensures .well,
       c .spend .ensures .fixed ∙ l .inv .1,
       c .next .ensures .good,
