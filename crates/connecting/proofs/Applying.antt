@@ -73,8 +73,8 @@ pub record Opened (t : Transaction) (ts us : List TransactionValue) : Type 0 whe
   pub whole : length (inputs-in (items-of (t .inputs))) ≡ length (items-of (t .inputs))
   pub good : Items-good (t .inputs) × Items-good (t .outputs)
 
-pub opened : (t : Transaction) (ts us : List TransactionValue) → (v : TransactionValue) × Hands t v × (ts ≡ v ∷ us) → Opened t ts us
-opened t ts us (v, h, e) =
+pub opened : (t : Transaction) (v : TransactionValue) (ts us : List TransactionValue) → Hands t v → ts ≡ v ∷ us → Opened t ts us
+opened t v ts us h e =
     let r = reads t v h in
     let same : v ≡ value-of t = λ i. record { id = sym (h .id) i; inputs = sym (r .inputs) i; outputs = sym (r .outputs) i } in
     record { is = e ∙ ap (λ x. x ∷ us) same; whole = ap length (r .inputs) ∙ sym (r .input-count); good = (h .good-inputs, h .good-outputs) }

@@ -22,7 +22,7 @@ money-within : (i sum : ℕ) (ys : List OutputValue) (u : Unit) → sum ≤ 2100
 money-within i sum [] u l e = omega arith
 money-within i sum (y ∷ ys) u l e =
     let p = passed (leb (y .value) 2100000000000000 && leb (sum + y .value) 2100000000000000) (money (i + 1) (sum + y .value) ys) _ u e in
-    let less = leb-true _ _ (and-parts _ _ (p .0) .1) in
+    let less : sum + y .value ≤ 2100000000000000 = leb-true _ _ (and-parts (leb (y .value) 2100000000000000) _ (p .0) .1) in
     omega (arith, money-within (i + 1) (sum + y .value) ys u less (p .1))
 
 all-within : (ys : List OutputValue) (u : Unit) → money 0 0 ys ≡ Ok u → worth ys ≤ 2100000000000000

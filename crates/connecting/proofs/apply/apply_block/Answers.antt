@@ -18,17 +18,19 @@ use Rattle.connecting.proofs.Applying.{Opened, opened, effect-unmade, effect-u
 use Rattle.connecting.proofs.apply.apply_block.Needs as need
 
 -- the coinbase of a block, with the transactions after it
-first-is : (t : Transaction) (bs ts us : List TransactionValue) → ts ≡ bs → (v : TransactionValue) × Hands t v × (ts ≡ v ∷ us) → (bs ≡ value-of t ∷ us) × Opened t ts us
-first-is t bs ts us e h = let o = opened t ts us h in (sym e ∙ o .is, o)
+first-is : (t : Transaction) (v : TransactionValue) (bs ts us : List TransactionValue) → ts ≡ bs → Hands t v → ts ≡ v ∷ us → (bs ≡ value-of t ∷ us) × Opened t ts us
+first-is t v bs ts us e h is = let o = opened t v ts us h is in (sym e ∙ o .is, o)
 
 pub outputs-worth-claimed-requires : need.outputs-worth-claimed-requires
 outputs-worth-claimed-requires g c κs =
-    let f = first-is (c .in-Some .first) (block-of (c .args .block .now) .transactions) (transactions-of (c .transactions-others .result)) (transactions-of (c .next .last .self)) (c .transactions-others .ensures .all) (c .in-Some .ensures tt .hands) in
+    let h = c .in-Some .ensures tt .hands in
+    let f = first-is (c .in-Some .first) (h .0) (block-of (c .args .block .now) .transactions) (transactions-of (c .transactions-others .result)) (transactions-of (c .next .last .self)) (c .transactions-others .ensures .all) (h .1) (h .2) in
     record { good = f .1 .good .1; money = subst (All Moneyed) (f .0) (c .pre .money) .0 }
 
 pub apply-coinbase-requires : need.apply-coinbase-requires
 apply-coinbase-requires g c κs =
-    let f = first-is (c .in-Some .first) (block-of (c .args .block .now) .transactions) (transactions-of (c .transactions-others .result)) (transactions-of (c .next .last .self)) (c .transactions-others .ensures .all) (c .in-Some .ensures tt .hands) in
+    let h = c .in-Some .ensures tt .hands in
+    let f = first-is (c .in-Some .first) (h .0) (block-of (c .args .block .now) .transactions) (transactions-of (c .transactions-others .result)) (transactions-of (c .next .last .self)) (c .transactions-others .ensures .all) (h .1) (h .2) in
     record { well = c .pre .well; good = f .1 .good .1; money = subst (All Moneyed) (f .0) (c .pre .money) .0; room = omega (arith, ap transactions-needs (f .0), c .pre .room) }
 
 pub returns-in-Break-made : need.returns-in-Break-made
@@ -37,15 +39,17 @@ returns-in-Break-made g c =
     let a = c .args in
     let x = value-of (c .in-Some .first) in
     let us = transactions-of (c .next .last .self) in
-    let is = first-is (c .in-Some .first) (block-of (a .block .now) .transactions) (transactions-of (c .transactions-others .result)) us (c .transactions-others .ensures .all) (c .in-Some .ensures tt .hands) .0 in
+    let h = c .in-Some .ensures tt .hands in
+    let is = first-is (c .in-Some .first) (h .0) (block-of (a .block .now) .transactions) (transactions-of (c .transactions-others .result)) us (c .transactions-others .ensures .all) (h .1) (h .2) .0 in
     let e = c .in-Break-made .ensures tt in
     let t = effect-unmade (setting (v .most (a .view .now)) (g .C·SpendCondition .opens (a .condition .now)) (a .site)) (a .site .height) x (block-of (a .block .now) .transactions) us (v .coins (a .view .now)) is (c .in-Break-made .field-0 .0) (e .value) in
     let p = err-from-errBy (c .from-residual .result) (c .from-residual .ensures .1) in
-    record { well = e .well; fixed = e .fixed; value = rw (p .1) (t ∙ ap Err (sym (p .2))); back = e .back; long = rw (p .1) tt }
+    record { well = e .well; fixed = e .fixed; value = rw (p .1, p .2) t; back = e .back; long = rw (p .1) tt }
 
 pub apply-others-requires : need.apply-others-requires
 apply-others-requires g c κs =
-    let f = first-is (c .in-Some .first) (block-of (c .args .block .now) .transactions) (transactions-of (c .transactions-others .result)) (transactions-of (c .next .last .self)) (c .transactions-others .ensures .all) (c .in-Some .ensures tt .hands) in
+    let h = c .in-Some .ensures tt .hands in
+    let f = first-is (c .in-Some .first) (h .0) (block-of (c .args .block .now) .transactions) (transactions-of (c .transactions-others .result)) (transactions-of (c .next .last .self)) (c .transactions-others .ensures .all) (h .1) (h .2) in
     let e = c .in-Continue-made .ensures tt in
     record { well = e .well; good = c .next .ensures .good; money = subst (All Moneyed) (f .0) (c .pre .money) .1; room = omega (arith, ap transactions-needs (f .0), c .pre .room, e .long) }
 
@@ -55,13 +59,14 @@ returns-in-Break-sums g c =
     let a = c .args in
     let x = value-of (c .in-Some .first) in
     let us = transactions-of (c .next .last .self) in
-    let is = first-is (c .in-Some .first) (block-of (a .block .now) .transactions) (transactions-of (c .transactions-others .result)) us (c .transactions-others .ensures .all) (c .in-Some .ensures tt .hands) .0 in
+    let h = c .in-Some .ensures tt .hands in
+    let is = first-is (c .in-Some .first) (h .0) (block-of (a .block .now) .transactions) (transactions-of (c .transactions-others .result)) us (c .transactions-others .ensures .all) (h .1) (h .2) .0 in
     let e = c .in-Continue-made .ensures tt in
     let q = c .in-Break-sums .ensures tt in
     let rest = subst (λ k. spending-all (setting k (g .C·SpendCondition .opens (a .condition .now)) (a .site)) (a .site .height) 1 us (v .coins (c .apply-coinbase .last .view)) none ≡ Err (c .in-Break-sums .field-0 .0)) (e .fixed) (q .value) in
     let t = effect-unspent (setting (v .most (a .view .now)) (g .C·SpendCondition .opens (a .condition .now)) (a .site)) (a .site .height) x (block-of (a .block .now) .transactions) us (v .coins (a .view .now)) is (v .coins (c .apply-coinbase .last .view)) (e .value .0) (c .in-Break-sums .field-0 .0) rest in
     let p = err-from-errBy (c .from-residual-in-Break-sums .result) (c .from-residual-in-Break-sums .ensures .1) in
-    record { well = q .well; fixed = q .fixed ∙ e .fixed; value = rw (p .1) (t ∙ ap Err (sym (p .2))); back = back-on (v .most (a .view .now)) (v .most (c .apply-coinbase .last .view)) (entries (c .apply-others .last .chain)) (entries (c .apply-coinbase .last .chain)) (v .coins (c .apply-others .last .view)) (v .coins (c .apply-coinbase .last .view)) (e .fixed) (q .back) ∙ e .back; long = rw (p .1) tt }
+    record { well = q .well; fixed = q .fixed ∙ e .fixed; value = rw (p .1, p .2) t; back = back-on (v .most (a .view .now)) (v .most (c .apply-coinbase .last .view)) (entries (c .apply-others .last .chain)) (entries (c .apply-coinbase .last .chain)) (v .coins (c .apply-others .last .view)) (v .coins (c .apply-coinbase .last .view)) (e .fixed) (q .back) ∙ e .back; long = rw (p .1) tt }
 
 pub add-due : need.add-due
 add-due g c = let small = subsidy-small (c .args .site .halving) (c .args .site .height) in let few = c .in-Continue-sums .ensures tt .few in search needs
@@ -72,7 +77,8 @@ returns-then-claimed-due g c =
     let a = c .args in
     let x = value-of (c .in-Some .first) in
     let us = transactions-of (c .next .last .self) in
-    let is = first-is (c .in-Some .first) (block-of (a .block .now) .transactions) (transactions-of (c .transactions-others .result)) us (c .transactions-others .ensures .all) (c .in-Some .ensures tt .hands) .0 in
+    let h = c .in-Some .ensures tt .hands in
+    let is = first-is (c .in-Some .first) (h .0) (block-of (a .block .now) .transactions) (transactions-of (c .transactions-others .result)) us (c .transactions-others .ensures .all) (h .1) (h .2) .0 in
     let e = c .in-Continue-made .ensures tt in
     let q = c .in-Continue-sums .ensures tt in
     let rest = subst (λ k. spending-all (setting k (g .C·SpendCondition .opens (a .condition .now)) (a .site)) (a .site .height) 1 us (v .coins (c .apply-coinbase .last .view)) none ≡ Ok (v .coins (c .apply-others .last .view), c .in-Continue-sums .sums)) (e .fixed) (q .value) in
@@ -99,7 +105,8 @@ returns g c =
     let a = c .args in
     let x = value-of (c .in-Some .first) in
     let us = transactions-of (c .next .last .self) in
-    let is = first-is (c .in-Some .first) (block-of (a .block .now) .transactions) (transactions-of (c .transactions-others .result)) us (c .transactions-others .ensures .all) (c .in-Some .ensures tt .hands) .0 in
+    let h = c .in-Some .ensures tt .hands in
+    let is = first-is (c .in-Some .first) (h .0) (block-of (a .block .now) .transactions) (transactions-of (c .transactions-others .result)) us (c .transactions-others .ensures .all) (h .1) (h .2) .0 in
     let e = c .in-Continue-made .ensures tt in
     let q = c .in-Continue-sums .ensures tt in
     let rest = subst (λ k. spending-all (setting k (g .C·SpendCondition .opens (a .condition .now)) (a .site)) (a .site .height) 1 us (v .coins (c .apply-coinbase .last .view)) none ≡ Ok (v .coins (c .apply-others .last .view), c .in-Continue-sums .sums)) (e .fixed) (q .value) in

@@ -24,7 +24,8 @@ loop-tx-holds g c = let few = transactions-few (c .args .others) (c .pre .good) 
 pub apply-spending-requires : need.apply-spending-requires
 apply-spending-requires g c κs =
     let l = c .loop-tx in
-    let o = opened (c .in-Some .tx) (transactions-of (l .others)) (transactions-of (c .next .last .self)) (c .in-Some .ensures tt .hands) in
+    let h = c .in-Some .ensures tt .hands in
+    let o = opened (c .in-Some .tx) (h .0) (transactions-of (l .others)) (transactions-of (c .next .last .self)) (h .1) (h .2) in
     let moneyed : All Moneyed (value-of (c .in-Some .tx) ∷ transactions-of (c .next .last .self)) = subst (All Moneyed) (o .is) (l .inv .4) in
     record { well = l .inv .0; good = o .good; whole = o .whole; money = moneyed .0; room = omega (arith, ap others-needs (o .is), l .inv .5, c .pre .room) }
 
@@ -35,7 +36,8 @@ loop-tx-again g c =
     let l = c .loop-tx in
     let x = value-of (c .in-Some .tx) in
     let us = transactions-of (c .next .last .self) in
-    let o = opened (c .in-Some .tx) (transactions-of (l .others)) us (c .in-Some .ensures tt .hands) in
+    let h = c .in-Some .ensures tt .hands in
+    let o = opened (c .in-Some .tx) (h .0) (transactions-of (l .others)) us (h .1) (h .2) in
     let room = v .most (a .view .now) in
     let opens = g .C·SpendCondition .opens (a .condition .now) in
     let few = at-placed (l .t) (c .apply-spending .result) (c .at-transaction .result) (λ (b : Sums). (b .made ≤ 64) × (b .spent ≤ 64) × (b .fees ≤ 64 * 2100000000000000) × (b .burned ≤ 2100000000000000)) (c .in-Continue-one .one) (c .at-transaction .ensures) (c .in-Continue-one .was tt) (c .apply-spending .ensures .few) in
@@ -62,7 +64,8 @@ returns-in-Break-one g c =
     let l = c .loop-tx in
     let x = value-of (c .in-Some .tx) in
     let us = transactions-of (c .next .last .self) in
-    let o = opened (c .in-Some .tx) (transactions-of (l .others)) us (c .in-Some .ensures tt .hands) in
+    let h = c .in-Some .ensures tt .hands in
+    let o = opened (c .in-Some .tx) (h .0) (transactions-of (l .others)) us (h .1) (h .2) in
     let room = v .most (a .view .now) in
     let opens = g .C·SpendCondition .opens (a .condition .now) in
     let value = subst (λ k. Cases (c .apply-spending .result) (λ b. spending (setting k opens (a .site)) (a .site .height) x (v .coins (l .view)) ≡ Ok (v .coins (c .apply-spending .last .view), b)) (λ f. spending (setting k opens (a .site)) (a .site .height) x (v .coins (l .view)) ≡ Err f)) (l .inv .1) (c .apply-spending .ensures .value) in
@@ -72,7 +75,7 @@ returns-in-Break-one g c =
     record {
       well = c .apply-spending .ensures .well;
       fixed = c .apply-spending .ensures .fixed ∙ l .inv .1;
-      value = rw (p .1) (t ∙ ap Err (sym (p .2)));
+      value = rw (p .1, p .2) t;
       back = k;
       long = rw (p .1) tt;
       few = rw (p .1) tt;

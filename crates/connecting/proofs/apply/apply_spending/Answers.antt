@@ -28,7 +28,7 @@ returns-then-paid-worth g c =
     record {
       well = e .well;
       fixed = e .fixed;
-      value = spending-under (setting (v .most (a .view .now)) (g .C·SpendCondition .opens (a .condition .now)) (a .site)) (a .site .height) (value-of (a .tx .now)) (v .coins (a .view .now)) _ _ (e .value) (omega (arith, c .if-paid-worth .taken, c .outputs-worth-worth .ensures));
+      value = spending-under (setting (v .most (a .view .now)) (g .C·SpendCondition .opens (a .condition .now)) (a .site)) (a .site .height) (value-of (a .tx .now)) (v .coins (a .view .now)) (v .coins (c .spend-inputs .last .view)) (c .in-Continue-paid .paid) (e .value) (omega (arith, c .if-paid-worth .taken, c .outputs-worth-worth .ensures));
       back = e .back;
       long = tt;
       few = tt;
