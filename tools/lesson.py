@@ -4,6 +4,7 @@
     tools/lesson.py build FOLDER...         writes FOLDER/blocks.dat from FOLDER/blocks.txt
     tools/lesson.py check FOLDER...         says whether FOLDER/blocks.dat is what blocks.txt describes
     tools/lesson.py run PROGRAM FOLDER...   runs PROGRAM in each folder on its script, compares with its printout
+    tools/lesson.py gate                    writes crates/lessons/stdout from the printouts of all lessons
 
 A folder holds blocks.txt (the description), blocks.dat (the block file), script and printout.
 
@@ -44,6 +45,7 @@ import subprocess
 import sys
 from pathlib import Path
 
+LESSONS = Path(__file__).resolve().parent.parent / "crates" / "lessons"
 NULL = bytes(32) + b"\xff" * 4
 
 
@@ -208,7 +210,17 @@ def try_program(program, folder):
     return f"status {done.returncode}" if done.returncode else None
 
 
+def gate():
+    """What the program of all lessons must write: each printout under the lesson's name."""
+    folders = sorted(folder for folder in (LESSONS / "data").iterdir() if folder.is_dir())
+    return b"".join(b"lesson " + folder.name.encode() + b"\n" + (folder / "printout").read_bytes()
+                    for folder in folders)
+
+
 def main(words):
+    if words == ["gate"]:
+        (LESSONS / "stdout").write_bytes(gate())
+        return 0
     if len(words) < 2 or words[0] not in ("build", "check", "run"):
         raise SystemExit(__doc__)
     command, *rest = words
