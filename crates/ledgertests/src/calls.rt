@@ -11,7 +11,7 @@ use ledger::fault::LedgerFault;
 use views::condition::SpendCondition;
 
 // Transactions go by the number of their identifier, blocks by their place in a list.
-#[derive(Clone, Copy, PartialEq, Eq, Debug)]
+#[derive(Clone, Copy)]
 pub enum Call {
     // The halving interval, the maturity and the last height.
     Start(u64, u64, u64),
@@ -28,7 +28,7 @@ pub enum Call {
     Balance(u8, u64),
 }
 
-#[derive(Clone, Copy, PartialEq, Eq, Debug)]
+#[derive(Clone, Copy, PartialEq, Debug)]
 pub enum Answer {
     Done,
     // Height, coins made and spent, fees and burned.

@@ -1,4 +1,6 @@
 // The lists over a flat table, a quota, and caches over them.
+use crate::calls::Answer;
+use crate::calls::Call;
 use crate::state::stand_first;
 use crate::state::state_of;
 use crate::tests::agrees;
@@ -47,12 +49,27 @@ const CELL: (Outpoint, Coin) = (
     },
 );
 
+// Makes the calls of a list on a new ledger over a cache on a table.
+fn cache_agrees(heap: Global, blocks: &[Vec<u8>], list: &[(Call, Answer)]) -> Result<(), Fail> {
+    let mut cells = [CELL; 512];
+    let mut ledger = Ledger::new(cached_table(heap, &mut cells)?, Badge);
+    agrees(heap, &mut ledger, blocks, list)
+}
+
 #[test]
 fn starting(rt: LibcRuntime) -> Result<(), Fail> {
-    let heap = rt.alloc();
-    let mut cells = [CELL; 8];
-    let mut ledger = Ledger::new(cached_table(heap, &mut cells)?, Badge);
-    agrees(heap, &mut ledger, &plain_blocks(heap)?, &STARTING)
+    cache_agrees(rt.alloc(), &plain_blocks(rt.alloc())?, &STARTING)
+}
+
+#[test]
+fn settling(rt: LibcRuntime) -> Result<(), Fail> {
+    cache_agrees(rt.alloc(), &plain_blocks(rt.alloc())?, &SETTLING)?;
+    cache_agrees(rt.alloc(), &wide_blocks(rt.alloc())?, &CROWDING)
+}
+
+#[test]
+fn reading(rt: LibcRuntime) -> Result<(), Fail> {
+    cache_agrees(rt.alloc(), &mixed_blocks(rt.alloc())?, &READING)
 }
 
 #[test]
@@ -63,22 +80,6 @@ fn start_over_coins(rt: LibcRuntime) -> Result<(), Fail> {
     check(table.put(CELL.0, CELL.1).is_ok())?;
     let mut ledger = Ledger::new(table, Badge);
     agrees(heap, &mut ledger, &plain_blocks(heap)?, &OVER_COINS)
-}
-
-#[test]
-fn settling(rt: LibcRuntime) -> Result<(), Fail> {
-    let heap = rt.alloc();
-    let mut cells = [CELL; 8];
-    let mut ledger = Ledger::new(FlatTable::new(&mut cells), Badge);
-    agrees(heap, &mut ledger, &plain_blocks(heap)?, &SETTLING)
-}
-
-#[test]
-fn crowding(rt: LibcRuntime) -> Result<(), Fail> {
-    let heap = rt.alloc();
-    let mut cells = [CELL; 512];
-    let mut ledger = Ledger::new(cached_table(heap, &mut cells)?, Badge);
-    agrees(heap, &mut ledger, &wide_blocks(heap)?, &CROWDING)
 }
 
 #[test]
@@ -95,14 +96,6 @@ fn filling_a_quota(rt: LibcRuntime) -> Result<(), Fail> {
     let mut cells = [CELL; 8];
     let mut ledger = Ledger::new(cached_quota(heap, &mut cells, 3)?, Badge);
     agrees(heap, &mut ledger, &tight_blocks(heap)?, &FILLING)
-}
-
-#[test]
-fn reading(rt: LibcRuntime) -> Result<(), Fail> {
-    let heap = rt.alloc();
-    let mut cells = [CELL; 8];
-    let mut ledger = Ledger::new(cached_table(heap, &mut cells)?, Badge);
-    agrees(heap, &mut ledger, &mixed_blocks(heap)?, &READING)
 }
 
 // Makes the calls over a cache on a table in the cells, with a flush at the end or without, and answers the coins.
