@@ -3,6 +3,7 @@ ghost use Prim.Native.Nat.{_≤_};
 
 pub mod calls;
 pub mod fault;
+pub mod runs;
 pub mod terms;
 
 use crate::terms::Terms;
