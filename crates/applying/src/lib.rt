@@ -1,4 +1,6 @@
 // The effect of a block on the coins, with an undo entry for each coin taken and each coin put.
+#![tactic(auto)]
+
 ghost use Rattle.std.specs.Prelude.{◌≡◌, ◌+◌, ◌*◌, ◌≤◌, true, length, IfOk, Ok, Err, MatchResult, OnOk};
 ghost use Rattle.undo.specs.Entries.{entries};
 ghost use Rattle.blockform.specs.Value.{All};

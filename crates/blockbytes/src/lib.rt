@@ -1,4 +1,6 @@
 // A block as a value, the bytes that write it, and the check of bytes: where the block ends, or the first fault.
+#![tactic(auto)]
+
 ghost use Rattle.blockbytes.specs.Laws.{ReadIsEncoded, EncodedIsRead, OneBlock};
 
 pub mod fault;

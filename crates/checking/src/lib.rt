@@ -1,4 +1,6 @@
 // The checks that a block meets before a coin is touched.
+#![tactic(auto)]
+
 ghost use Rattle.std.specs.Prelude.{◌≡◌, ◌+◌, ◌≤◌, length, IfOk, Ok};
 ghost use Rattle.blockform.specs.Value.{TransactionValue};
 ghost use Rattle.blockform.specs.Readers.{piece_of, items_of, transactions_of, block_of, ItemsGood, TransactionsGood, BlockGood, Hands};

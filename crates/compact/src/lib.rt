@@ -1,4 +1,6 @@
 // Compact sizes: a number in 1, 3, 5 or 9 bytes, always in the shortest form.
+#![tactic(auto)]
+
 ghost use Rattle.std.specs.Prelude.{◌≡◌, ℕ, ◌^◌, ◌<◌, ◌≤◌, List, ◌++◌, length, drop, Ok, Err, MatchResult, ◌≢◌};
 ghost use Rattle.compact.specs.declared.SizeFault.TheVariants.{LongForm};
 ghost use Rattle.compact.specs.Faults.{size_refusal, short_refusal};

@@ -1,2 +1,4 @@
 // The plain table of a cache's entries.
+#![tactic(auto)]
+
 pub mod table;

@@ -1,4 +1,6 @@
 // A ledger over any coins view and any spend condition.
+#![tactic(auto)]
+
 ghost use Rattle.std.specs.Prelude.{◌≤◌};
 
 pub mod calls;

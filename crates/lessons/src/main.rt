@@ -1,4 +1,6 @@
 // Replays every lesson over a flat table, and prints each printout under the lesson's name.
+#![tactic(auto)]
+
 use replay::flat::printout_over_flat_table;
 use std::fs::File;
 use std::io::Read;

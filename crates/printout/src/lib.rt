@@ -1,4 +1,6 @@
 // One line of the printout, and its text.
+#![tactic(auto)]
+
 ghost use Rattle.std.specs.Prelude.{◌≡◌, ◌++◌, Some, string_bytes, OnOk};
 ghost use Rattle.printout.specs.Texts.{clean_word, text_of, line_text, ReadsAsPrinted, OneLineEach};
 

@@ -1,4 +1,6 @@
 // Why a call is refused: the reason with its number, word and layer, and the place of the fault.
+#![tactic(auto)]
+
 ghost use Rattle.std.specs.Prelude.{◌≡◌};
 ghost use Rattle.refusal.specs.Numbers.{number_of, word_of, layer_of};
 

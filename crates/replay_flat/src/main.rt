@@ -1,4 +1,6 @@
 // The replayer: blocks.dat and a script from standard input, and the printout that they give.
+#![tactic(auto)]
+
 use replay::flat::printout_over_flat_table;
 use std::fs::File;
 use std::io::Read;

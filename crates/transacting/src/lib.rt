@@ -1,4 +1,6 @@
 // The inputs and the outputs of one transaction applied to the coins, with an undo entry for each coin taken and each coin put.
+#![tactic(auto)]
+
 ghost use Rattle.std.specs.Prelude.{◌≡◌, ◌+◌, ◌*◌, ◌<◌, ◌≤◌, true, length, is_ok, IfOk, if◌then◌else◌, Ok, Err, MatchResult, OnOk};
 ghost use Rattle.undo.specs.Entries.{entries};
 ghost use Rattle.coinsview.specs.Meaning.{coin_at, with_coin, without, put_answer};

@@ -1,4 +1,6 @@
 // The undo memory: what each standing block took and made, so that the block can be taken back.
+#![tactic(auto)]
+
 ghost use Rattle.std.specs.Prelude.{◌≡◌, ◌≤◌, length};
 
 mod chain;

@@ -1,4 +1,6 @@
 // The way back from a block, by its undo entries.
+#![tactic(auto)]
+
 ghost use Rattle.std.specs.Prelude.{◌≡◌, true, Some, None, MatchOption};
 ghost use Rattle.undo.specs.Entries.{entries};
 ghost use Rattle.unwinding.specs.Undoing.{undone, found, back};

@@ -1,5 +1,7 @@
 // Coins views and spend conditions: the trait of views, the flat table, the quota and the cache, piles of them, and the
 // conditions that open a lock.
+#![tactic(auto)]
+
 pub mod condition;
 pub mod example;
 pub mod pile;
