@@ -1,11 +1,11 @@
 -- The order of outpoints is total, and tells any two apart. Assumes nothing.
-use Rattle.std.proofs.Common.{◌≡◌, ℕ, ◌<◌, List, [], ◌∷◌, Ordering, Less, Equal, Greater, sym, refl, ap, ◌∙◌, arith}
+use Rattle.std.proofs.Common.{◌≡◌, ℕ, List, [], ◌∷◌, Ordering, Less, Equal, Greater, refl, arith}
 use Rattle.std.proofs.lemmas.Bool.Decides.{nat_tests}
 use Rattle.std.specs.Ordering.{ordering_then, ordering_reverse, nat_cmp}
-use Rattle.std.specs.Cmp.{nat_cmp_total, pairs}
-use Rattle.std.specs.Cmp.Lexicographic.{slice_cmp, lists_total}
+use Rattle.std.specs.Cmp.Lexicographic.{slice_cmp}
 use Rattle.coins.specs.declared.outpoint.Outpoint.{Outpoint}
 use Rattle.coins.specs.Order.{order}
+use Rattle.coins.specs.Comparisons.{order_is_total}
 
 pub then_first : (a b : Ordering) → (a ≡ Equal → ⊥) → ordering_then a b ≡ a
 then_first Less b n = refl
@@ -40,7 +40,7 @@ order_equal x y h =
     λ i. record { id = p i; index = q i }
 
 pub order_flip : (x y : Outpoint) → order x y ≡ ordering_reverse (order y x)
-order_flip x y = (pairs (lists_total nat_cmp_total) nat_cmp_total).flip (x.id, x.index) (y.id, y.index)
+order_flip = order_is_total.antisymm
 
 pub order_trans : (x y z : Outpoint) → order x y ≡ Less → order y z ≡ Less → order x z ≡ Less
-order_trans x y z = (pairs (lists_total nat_cmp_total) nat_cmp_total).trans (x.id, x.index) (y.id, y.index) (z.id, z.index)
+order_trans = order_is_total.trans

@@ -1,16 +1,15 @@
 // When two locks, and two coins, are the same.
 ghost use Rattle.std.specs.Prelude.{◌≡◌};
 ghost use Rattle.coins.specs.Same.{same_lock, same_coin, SameIsEqual};
-ghost use Rattle.std.specs.Cmp.Rules.{comparing};
-ghost use Rattle.std.proofs.Common.{rules, arith};
-ghost use Rattle.std.specs.Cmp as Keys;
+ghost use Rattle.coins.specs.Comparisons.{locks_equiv, coins_equiv};
+ghost use Rattle.std.specs.Cmp.{partial_equiv_from_equiv};
 
 use crate::coin::{Coin, Lock};
 
 impl PartialEq for Lock {
     ghost eq = { λ x y. same_lock x y };
 
-    ghost laws = { Keys.partial_equiv_from_equiv (Prim.search (comparing, rules)) };
+    ghost laws = { partial_equiv_from_equiv locks_equiv };
 
     fn eq(&self, other: &Lock) -> bool {
         self.kind == other.kind && self.argument == other.argument
@@ -18,13 +17,13 @@ impl PartialEq for Lock {
 }
 
 impl Eq for Lock {
-    ghost laws = { Prim.search (comparing, rules) };
+    ghost laws = { locks_equiv };
 }
 
 impl PartialEq for Coin {
     ghost eq = { λ x y. same_coin x y };
 
-    ghost laws = { Keys.partial_equiv_from_equiv (first_of (Prim.search (comparing, rules), Prim.grind (arith, Self.row.coded.inj))) };
+    ghost laws = { partial_equiv_from_equiv coins_equiv };
 
     fn eq(&self, other: &Coin) -> bool {
         self.value == other.value
@@ -35,7 +34,7 @@ impl PartialEq for Coin {
 }
 
 impl Eq for Coin {
-    ghost laws = { first_of (Prim.search (comparing, rules), Prim.grind (arith, Self.row.coded.inj)) };
+    ghost laws = { coins_equiv };
 }
 
 // Whether two coins are the same is whether they are equal; so are two locks.

@@ -4,10 +4,8 @@ ghost use Rattle.std.specs.Cmp.Lexicographic.{slice_cmp};
 ghost use Rattle.std.specs.Ordering.{is_eq, nat_cmp};
 ghost use Rattle.coins.specs.Order.{order, null_outpoint};
 ghost use Rattle.coins.specs.Words.{word_at};
-ghost use Rattle.std.specs.Cmp.Rules.{comparing};
-ghost use Rattle.std.proofs.Common.{rules};
-ghost use Rattle.std.specs.Cmp as Keys;
-ghost use Rattle.std.specs.Cmp.{partial_order_from_agreeing_total};
+ghost use Rattle.coins.specs.Comparisons.{order_is_total};
+ghost use Rattle.std.specs.Cmp.{partial_equiv_from_equiv, partial_order_from_total, eq_by_cmp_equiv};
 
 use std::cmp::Ordering;
 
@@ -65,23 +63,26 @@ fn same(a: &Outpoint, b: &Outpoint) -> bool
 }
 
 impl PartialEq for Outpoint {
-    ghost equals = { λ x y r. Decides r (x ≡ y) };
+    ghost eq = { λ x y. is_eq (order x y) };
 
-    ghost laws = { Keys.partial_equiv_from_equiv (Prim.search (comparing, rules)) };
+    ghost laws = { partial_equiv_from_equiv (eq_by_cmp_equiv order_is_total) };
 
-    fn eq(&self, other: &Outpoint) -> bool {
+    fn eq(&self, other: &Outpoint) -> bool
+        ensures value { result ≡ is_eq (order self.now other.now) }
+        ensures decides { Decides result (self.now ≡ other.now) }
+    {
         same(self, other)
     }
 }
 
 impl Eq for Outpoint {
-    ghost laws = { Prim.search (comparing, rules) };
+    ghost laws = { eq_by_cmp_equiv order_is_total };
 }
 
 impl PartialOrd for Outpoint {
     ghost partial_cmp = { λ x y. Some (order x y) };
 
-    ghost laws = { partial_order_from_agreeing_total (λ x y. order x y) (Prim.search (comparing, rules)) (λ _ _. refl) (Prim.search (comparing, rules)) };
+    ghost laws = { partial_order_from_total order_is_total };
 
     fn partial_cmp(&self, other: &Outpoint) -> Option<Ordering> {
         Some(self.cmp(other))
@@ -91,11 +92,11 @@ impl PartialOrd for Outpoint {
 impl Ord for Outpoint {
     ghost cmp = { λ x y. order x y };
 
-    ghost total = { Prim.search (comparing, rules) };
+    ghost total = { order_is_total };
 
-    ghost matches_partial_cmp = { Prim.search (comparing, rules) };
+    ghost matches_partial_cmp = { λ _ _. refl };
 
-    ghost matches_eq = { Prim.search (comparing, rules) };
+    ghost matches_eq = { λ _ _. refl };
 
     fn cmp(&self, other: &Outpoint) -> Ordering {
         compare_ids(&self.id, &other.id).then(compare_indexes(self.index, other.index))

@@ -1,4 +1,4 @@
-use Rattle.std.proofs.Common.{◌≡◌, ◌*◌, sym, ◌∙◌, arith}
+use Rattle.std.proofs.Common.{◌*◌, sym, ◌∙◌, arith}
 use Rattle.coins.proofs.Words.{words_equal, words_differ, none_left}
 use Rattle.coins.proofs.outpoint.compare_ids.Goals as goal
 

@@ -1,4 +1,4 @@
-use Rattle.std.proofs.Common.{◌≡◌, ap, add_assoc, arith}
+use Rattle.std.proofs.Common.{ap, add_assoc, arith}
 use Rattle.std.specs.Int.Digits.{number_from_digits}
 use Rattle.coins.proofs.Words.{front}
 use Rattle.coins.proofs.outpoint.word.Goals as goal

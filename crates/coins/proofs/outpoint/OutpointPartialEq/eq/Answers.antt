@@ -1,4 +1,4 @@
-use Rattle.std.proofs.Common.{◌≡◌, true, Decides, Ordering, Less, Equal, Greater, refl, ap, ◌∙◌, subst, arith}
+use Rattle.std.proofs.Common.{◌≡◌, true, Decides, Ordering, Equal, ap, subst, arith}
 use Rattle.std.specs.Ordering.{is_eq}
 use Rattle.std.proofs.lemmas.Bool.Decides.{Decides-at}
 use Rattle.coins.specs.declared.outpoint.Outpoint.{Outpoint}
@@ -12,5 +12,5 @@ is_equal o h = grind arith
 decides : (x y : Outpoint) → Decides (is_eq (order x y)) (x ≡ y)
 decides x y = (λ h. order_equal x y (is_equal (order x y) h), λ e. subst (λ z. is_eq (order x z) ≡ true) e (ap is_eq (order_itself x)))
 
-pub returns : goal.returns
-returns c = Decides-at _ _ c.same.ensures (decides c.args.self.now c.args.other.now)
+pub returns-clause-decides : goal.returns-clause-decides
+returns-clause-decides c = Decides-at _ _ c.same.ensures (decides c.args.self.now c.args.other.now)
