@@ -3,7 +3,7 @@ use Rattle.std.proofs.Common.{◌≡◌, ℕ, ◌+◌, ◌-◌, ◌<◌, ◌≤�
 use Rattle.std.specs.List.{insert, remove}
 use Rattle.std.proofs.lemmas.List.{length-set, length-take-le, get_or-take, get_or-set_same, get_or-set_other, same_lists}
 use Rattle.std.proofs.lemmas.Bool.{cases_eq}
-use Rattle.std.proofs.lemmas.List.Edits.{length_insert, get_or-insert_below, get_or-insert_at, get_or-insert_above, length_remove, get_or-remove_below, get_or-remove_above}
+use Rattle.std.proofs.lemmas.List.Edits.{length-insert, get_or-insert_below, get_or-insert_at, get_or-insert_above, length-remove, get_or-remove_below, get_or-remove_above}
 
 module _ {X : Type 0} where
   -- the elements above j, up to `used`, have come from one place below
@@ -21,7 +21,7 @@ module _ {X : Type 0} where
       let len : length ys ≡ used = length-take-le used old (omega arith) in
       let le : at ≤ length ys = omega arith in
       let short : length (take (used + 1) n) ≡ used + 1 = length-take-le (used + 1) n fits in
-      same_lists (take (used + 1) n) (insert ys at x) (short ∙ (omega (arith, length_insert ys at x le)))
+      same_lists (take (used + 1) n) (insert ys at x) (short ∙ (omega (arith, length-insert ys at x le)))
       (λ k d h.
       let under : k < used + 1 = omega arith in
       let a = cases_eq k at in
@@ -51,7 +51,7 @@ module _ {X : Type 0} where
       let le : at < length ys = omega arith in
       let fits : used - 1 ≤ length new = omega (arith, u.long) in
       let short : length (take (used - 1) new) ≡ used - 1 = length-take-le (used - 1) new fits in
-      same_lists (take (used - 1) new) (remove ys at) (short ∙ (omega (arith, length_remove ys at le)))
+      same_lists (take (used - 1) new) (remove ys at) (short ∙ (omega (arith, length-remove ys at le)))
       (λ k d h.
       let under : k < used - 1 = omega arith in
       let t = get_or-take (used - 1) new k d under in

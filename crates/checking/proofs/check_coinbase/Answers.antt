@@ -3,4 +3,4 @@ use Rattle.connecting.proofs.Tests.{reads}
 use Rattle.checking.proofs.check_coinbase.Goals as goal
 
 pub returns : goal.returns
-returns c = record { is = λ v h. let r = reads c.args.tx.now v h in search rules; few = c.check-outputs.ensures.few }
+returns c = record { is = λ v h. let r = reads c.args.tx.now v h in search rules; few = c.check_outputs.ensures.few }

@@ -7,7 +7,7 @@ pub loop-id-init : goal.loop-id-init
 loop-id-init c = let few = items_few c.args.inputs c.requires in search rules
 
 pub loop-id-preserved : goal.loop-id-preserved
-loop-id-preserved c = let t = null_is _ _ c.if-is-null.ensures in search rules
+loop-id-preserved c = let t = null_is _ _ c.if-is_null.ensures in search rules
 
-pub returns-then-is-null : goal.returns-then-is-null
-returns-then-is-null c = let t = null_is _ _ c.if-is-null.ensures in search rules
+pub returns-then-is_null : goal.returns-then-is_null
+returns-then-is_null c = let t = null_is _ _ c.if-is_null.ensures in search rules

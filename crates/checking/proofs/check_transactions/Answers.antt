@@ -13,32 +13,32 @@ use Rattle.checking.proofs.check_transactions.Goals as goal
 first_is : (t : Transaction) (v : TransactionValue) (b : _) → Hands t v → (length (inputs_in (items_of t.inputs)) ≡ length (items_of t.inputs) → b ≡ is_coinbase (inputs_in (items_of t.inputs))) → b ≡ is_coinbase v.inputs
 first_is t v b h f = let r = reads t v h in f (ap length r.inputs ∙ sym r.input_count) ∙ ap is_coinbase r.inputs
 
-pub returns-in-default : goal.returns-in-default
-returns-in-default c = record { is = sym (ap (λ x. then (transactions_checks x) (λ _. Ok (transactions_needs x))) c.in-default.ensures.hands.0); few = tt }
+pub returns-in_default : goal.returns-in_default
+returns-in_default c = record { is = sym (ap (λ x. then (transactions_checks x) (λ _. Ok (transactions_needs x))) c.in_default.ensures.hands.0); few = tt }
 
-pub returns-then-not-is-coinbase : goal.returns-then-not-is-coinbase
-returns-then-not-is-coinbase c =
+pub returns-then-not-is_coinbase : goal.returns-then-not-is_coinbase
+returns-then-not-is_coinbase c =
     let h = c.in-Some.ensures.hands in
     let b = first_is _ h.0 _ h.1 c.is_coinbase.ensures in
-    record { is = sym (not_first _ _ h.0 h.2 (sym b ∙ c.if-not-is-coinbase.true)); few = tt }
+    record { is = sym (not_first _ _ h.0 h.2 (sym b ∙ c.if-not-is_coinbase.true)); few = tt }
 
-pub returns-in-err-made : goal.returns-in-err-made
-returns-in-err-made c =
+pub returns-in_err-made : goal.returns-in_err-made
+returns-in_err-made c =
     let h = c.in-Some.ensures.hands in
     let b = first_is _ h.0 _ h.1 c.is_coinbase.ensures in
     let p = err_from_is_err_and c.from-residual.result c.from-residual.ensures.1 in
     record {
-      is = p.1 ∙ ap Err p.2 ∙ sym (first_stop _ _ h.0 h.2 (sym b ∙ c.if-not-is-coinbase.false) _ _ (c.check-coinbase.ensures.is h.0 h.1) c.at_transaction.ensures _ c.in-err-made.was);
+      is = p.1 ∙ ap Err p.2 ∙ sym (first_stop _ _ h.0 h.2 (sym b ∙ c.if-not-is_coinbase.false) _ _ (c.check_coinbase.ensures.is h.0 h.1) c.at_transaction.ensures _ c.in_err-made.was);
       few = subst (λ r. IfOk r (λ n. n ≤ 8256)) (sym p.1) tt;
     }
 
-pub returns-in-err-needed : goal.returns-in-err-needed
-returns-in-err-needed c =
+pub returns-in_err-needed : goal.returns-in_err-needed
+returns-in_err-needed c =
     let h = c.in-Some.ensures.hands in
     let b = first_is _ h.0 _ h.1 c.is_coinbase.ensures in
-    let p = err_from_is_err_and c.from-residual-in-err-needed.result c.from-residual-in-err-needed.ensures.1 in
+    let p = err_from_is_err_and c.from-residual-in_err-needed.result c.from-residual-in_err-needed.ensures.1 in
     record {
-      is = p.1 ∙ ap Err p.2 ∙ sym (rest_stop _ _ h.0 h.2 (sym b ∙ c.if-not-is-coinbase.false) _ _ (c.check-coinbase.ensures.is h.0 h.1) c.at_transaction.ensures _ _ _ c.in-ok-made.was c.check-others.ensures.is c.in-err-needed.was);
+      is = p.1 ∙ ap Err p.2 ∙ sym (rest_stop _ _ h.0 h.2 (sym b ∙ c.if-not-is_coinbase.false) _ _ (c.check_coinbase.ensures.is h.0 h.1) c.at_transaction.ensures _ _ _ c.in_ok-made.was c.check_others.ensures.is c.in_err-needed.was);
       few = subst (λ r. IfOk r (λ n. n ≤ 8256)) (sym p.1) tt;
     }
 
@@ -46,8 +46,8 @@ pub returns : goal.returns
 returns c =
     let h = c.in-Some.ensures.hands in
     let b = first_is _ h.0 _ h.1 c.is_coinbase.ensures in
-    let one = within 0 _ 64 _ _ c.check-coinbase.ensures.few c.at_transaction.ensures c.in-ok-made.was in
+    let one = within 0 _ 64 _ _ c.check_coinbase.ensures.few c.at_transaction.ensures c.in_ok-made.was in
     record {
-      is = sym (all_passed _ _ h.0 h.2 (sym b ∙ c.if-not-is-coinbase.false) _ _ (c.check-coinbase.ensures.is h.0 h.1) c.at_transaction.ensures _ _ _ c.in-ok-made.was c.check-others.ensures.is c.in-ok-needed.was);
-      few = omega (arith, one, c.in-ok-needed.ensures.few);
+      is = sym (all_passed _ _ h.0 h.2 (sym b ∙ c.if-not-is_coinbase.false) _ _ (c.check_coinbase.ensures.is h.0 h.1) c.at_transaction.ensures _ _ _ c.in_ok-made.was c.check_others.ensures.is c.in_ok-needed.was);
+      few = omega (arith, one, c.in_ok-needed.ensures.few);
     }

@@ -7,7 +7,7 @@ use Rattle.connecting.specs.Parts.{outputs_in}
 use Rattle.connecting.specs.Rules.{make_all}
 use Rattle.transacting.proofs.Turns.{back_same, back_on, output_sums, output_burned, output_counts, output_put, output_refused}
 use Rattle.transacting.proofs.make_outputs.Goals as goal
-use Rattle.transacting.proofs.make_outputs.Goals.{then-lock-eq0, else-lock-eq0+in-ok-make-one}
+use Rattle.transacting.proofs.make_outputs.Goals.{then-lock-eq0, else-lock-eq0+in_ok-make_one}
 
 pub loop-value-init : goal.loop-value-init
 loop-value-init g c = let few = items_few c.args.tx.now.outputs c.requires.good in search rules
@@ -38,9 +38,9 @@ loop-value-preserved g c =
             l.invariant.9 ∙ t.0 ∙ ap (λ z. make_all room a.site.height a.tx.now.id.now a.coinbase (l.index + 1) (outputs_in qs) (v.coins z)) (sym w.view-is),
             back_same room room _ _ _ _ refl (ap entries w.chain-is) (ap v.coins w.view-is) ∙ l.invariant.10,
           )
-      | else-lock-eq0+in-ok-make-one w ↦
-          let e = w.in-ok-make-one.ensures in
-          let t = output_put room a.site.height l.index a.tx.now.id.now a.coinbase y ps qs (v.coins l.view) hands (v.most l.view) l.invariant.1 w.if-lock-eq0.false (v.coins w.make-one.new.view) e.value in
+      | else-lock-eq0+in_ok-make_one w ↦
+          let e = w.in_ok-make_one.ensures in
+          let t = output_put room a.site.height l.index a.tx.now.id.now a.coinbase y ps qs (v.coins l.view) hands (v.most l.view) l.invariant.1 w.if-lock-eq0.false (v.coins w.make_one.new.view) e.value in
           let k = output_counts room a.site.height l.index a.tx.now.id.now a.coinbase y ps qs (v.coins l.view) hands (v.most l.view) l.invariant.1 w.if-lock-eq0.false in (
             subst (λ z. v.ok z) (sym w.view-is) e.well,
             ap v.most w.view-is ∙ e.fixed ∙ l.invariant.1,
@@ -52,12 +52,12 @@ loop-value-preserved g c =
             omega (arith, l.invariant.7, k.1, w.burned-is),
             omega (arith, l.invariant.8, ap (λ z. length (entries z)) w.chain-is, e.long, w.made-is),
             l.invariant.9 ∙ t ∙ ap (λ z. make_all room a.site.height a.tx.now.id.now a.coinbase (l.index + 1) (outputs_in qs) (v.coins z)) (sym w.view-is),
-            back_same room room _ _ _ _ refl (ap entries w.chain-is) (ap v.coins w.view-is) ∙ back_on room (v.most l.view) (entries w.make-one.new.chain) (entries l.chain) (v.coins w.make-one.new.view) (v.coins l.view) l.invariant.1 e.back ∙ l.invariant.10,
+            back_same room room _ _ _ _ refl (ap entries w.chain-is) (ap v.coins w.view-is) ∙ back_on room (v.most l.view) (entries w.make_one.new.chain) (entries l.chain) (v.coins w.make_one.new.view) (v.coins l.view) l.invariant.1 e.back ∙ l.invariant.10,
           )
     ]
 
-pub returns-in-err-make-one : goal.returns-in-err-make-one
-returns-in-err-make-one g c =
+pub returns-in_err-make_one : goal.returns-in_err-make_one
+returns-in_err-make_one g c =
     let v = g.V.CoinsView in
     let a = c.args in
     let l = c.loop-value in
@@ -66,7 +66,7 @@ returns-in-err-make-one g c =
     let qs = items_of c.next.new.self in
     let hands : items_of l.outputs ≡ makes y ∷ items_of c.next.new.self = let h = c.in-Some-Output.ensures.hands in search rules in
     let room = v.most a.view.now in
-    let e = c.in-err-make-one.ensures in
-    let t = output_refused room a.site.height l.index a.tx.now.id.now a.coinbase y ps qs (v.coins l.view) hands (v.most l.view) l.invariant.1 c.if-lock-eq0.false c.in-err-make-one.field-0.0 e.value in
-    let k = back_on room (v.most l.view) (entries c.make-one.new.chain) (entries l.chain) (v.coins c.make-one.new.view) (v.coins l.view) l.invariant.1 e.back ∙ l.invariant.10 in
+    let e = c.in_err-make_one.ensures in
+    let t = output_refused room a.site.height l.index a.tx.now.id.now a.coinbase y ps qs (v.coins l.view) hands (v.most l.view) l.invariant.1 c.if-lock-eq0.false c.in_err-make_one.field-0.0 e.value in
+    let k = back_on room (v.most l.view) (entries c.make_one.new.chain) (entries l.chain) (v.coins c.make_one.new.view) (v.coins l.view) l.invariant.1 e.back ∙ l.invariant.10 in
     search rules

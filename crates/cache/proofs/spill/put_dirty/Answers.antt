@@ -4,7 +4,7 @@ use Rattle.cache.proofs.spill.put_dirty.Goals as goal
 
 pub loop-pair-preserved : goal.loop-pair-preserved
 loop-pair-preserved g c =
-    let e = c.put-one.ensures in
+    let e = c.put_one.ensures in
     let l = c.loop-pair in (
       e.ok,
       e.fixed ∙ l.invariant.1,
@@ -12,8 +12,8 @@ loop-pair-preserved g c =
       fits_rest _ _ _ _ _ c.loop-pair-test.true c.pair-item.is _ l.invariant.3 e.map,
     )
 
-pub put-one-requires : goal.put-one-requires
-put-one-requires g c =
+pub put_one-requires : goal.put_one-requires
+put_one-requires g c =
     let l = c.loop-pair in
     record { ok = l.invariant.0; fits = fits_here _ _ _ _ (g.V.CoinsView.coins l.below) c.loop-pair-test.true c.pair-item.is _ _ l.invariant.1 l.invariant.3 }
 

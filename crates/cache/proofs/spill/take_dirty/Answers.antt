@@ -4,7 +4,7 @@ use Rattle.cache.proofs.spill.take_dirty.Goals as goal
 
 pub loop-pair-preserved : goal.loop-pair-preserved
 loop-pair-preserved g c =
-    let e = c.take-one.ensures in
+    let e = c.take_one.ensures in
     (e.ok, e.fixed ∙ c.loop-pair.invariant.1, take_step _ _ _ _ _ c.loop-pair-test.true c.pair-item.is e.map ∙ c.loop-pair.invariant.2)
 
 pub returns : goal.returns

@@ -4,9 +4,9 @@ use Rattle.coinsview.proofs.shift.remove_at.Goals as goal
 
 pub returns : goal.returns
 returns g c =
-    let h = c.copy-within.ensures in
+    let h = c.copy_within.ensures in
     let old = c.args.cells.now in
-    let new = c.copy-within.new.self in
+    let new = c.copy_within.new.self in
     let at = c.args.at in
     let down : Down old new c.args.used at = record {
       long = h.len;

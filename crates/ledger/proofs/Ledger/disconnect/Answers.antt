@@ -1,12 +1,12 @@
 use Rattle.ledger.proofs.Books.{clash, mark_found}
 use Rattle.ledger.proofs.Ledger.disconnect.Goals as goal
 
-pub returns-in-default : goal.returns-in-default
-returns-in-default g c =
+pub returns-in_default : goal.returns-in_default
+returns-in_default g c =
     let v = g.V.CoinsView in
     let o = g.C.SpendCondition in
     let a = c.args.self.now in
-    let e = c.in-default.ensures in
+    let e = c.in_default.ensures in
     record {
       ok = e.well;
       early = λ h. clash _ c.if-not-self.false h;

@@ -149,7 +149,7 @@ returns-in-Next g c =
     record {
       ok = e.ok;
       performed = subst (λ x. Performed v o c.args.bytes.now x (answer.Next r) a z) (sym c.in-Next.is) (record {
-        law = λ p s. let q = on_same_page v o a z r (λ k. Ok (next_in c.in-Next.from (coins_of k))) e.early (λ k t. let y = e.law k t in (y.0, y.1 ∙ ap (λ f. Ok (next_in f (coins_of k))) c.as-ref.ensures.value)) p s in (q.0, ap answer.Next q.1);
+        law = λ p s. let q = on_same_page v o a z r (λ k. Ok (next_in c.in-Next.from (coins_of k))) e.early (λ k t. let y = e.law k t in (y.0, y.1 ∙ ap (λ f. Ok (next_in f (coins_of k))) c.as_ref.ensures.value)) p s in (q.0, ap answer.Next q.1);
         kind = (r, refl);
         same = λ p s h. e.same;
       });

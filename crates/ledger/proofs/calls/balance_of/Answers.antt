@@ -6,21 +6,21 @@ use Rattle.ledger.proofs.Balances.{summed, turn, ended, no_more, held_bound, nex
 use Rattle.ledger.proofs.calls.balance_of.Goals as goal
 
 -- what the view answers is what stands at the turn's place
-pub with-coin-balance-requires : goal.with-coin-balance-requires
-with-coin-balance-requires g c =
+pub with_coin-balance-requires : goal.with_coin-balance-requires
+with_coin-balance-requires g c =
     let v = g.V.CoinsView in
     let l = c.loop-turn in
     let small = v.small c.args.view.now c.requires in
     let few = v.few c.args.view.now c.requires in
     (omega (arith, l.invariant.5, c.loop-turn-test.true, c.count-count.ensures, small, few), omega (arith, l.invariant.6, c.loop-turn-test.true, c.count-count.ensures, small, few))
 
-pub returns-in-default : goal.returns-in-default
-returns-in-default g c =
+pub returns-in_default : goal.returns-in_default
+returns-in_default g c =
     let v = g.V.CoinsView in
     let l = c.loop-turn in
     let m = v.coins c.args.view.now in
-    let e = c.in-default.ensures in
-    let at : None ≡ slice_get m l.-turn = e.value ∙ ap (λ x. next_in x (v.coins l.view)) c.as-ref.ensures.value ∙ ap (next_in l.last) l.invariant.2 ∙ l.invariant.3 in
+    let e = c.in_default.ensures in
+    let at : None ≡ slice_get m l.-turn = e.value ∙ ap (λ x. next_in x (v.coins l.view)) c.as_ref.ensures.value ∙ ap (next_in l.last) l.invariant.2 ∙ l.invariant.3 in
     no_more m l.-turn (omega (arith, c.loop-turn-test.true, c.count-count.ensures)) at
 
 pub loop-turn-preserved : goal.loop-turn-preserved
@@ -30,8 +30,8 @@ loop-turn-preserved g c =
     let m = v.coins c.args.view.now in
     let e = c.in-Some.ensures in
     let p = c.in-Some.pair in
-    let at : slice_get m l.-turn ≡ Some p = sym (e.value ∙ ap (λ x. next_in x (v.coins l.view)) c.as-ref.ensures.value ∙ ap (next_in l.last) l.invariant.2 ∙ l.invariant.3) in
-    let b = c.with-coin-balance.ensures in
+    let at : slice_get m l.-turn ≡ Some p = sym (e.value ∙ ap (λ x. next_in x (v.coins l.view)) c.as_ref.ensures.value ∙ ap (next_in l.last) l.invariant.2 ∙ l.invariant.3) in
+    let b = c.with_coin-balance.ensures in
     let bound = held_bound c.args.lock.now p.1 l.balance l.-turn l.invariant.5 l.invariant.6 in (
       e.well,
       e.fixed ∙ l.invariant.1,

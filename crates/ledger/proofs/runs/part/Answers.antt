@@ -9,4 +9,4 @@ returns c =
     let from = c.args.from in
     let ys = take (min to (length b)) b in
     let at : drop (min from (min to (length b))) ys ≡ drop from (take to b) = ap (λ n. drop (min from n) ys) (sym (length_most to b)) ∙ drop_most from ys ∙ ap (drop from) (take_most to b) in
-    c.split-at-2.ensures.back ∙ ap (drop c.min-start.result) c.split-at.ensures.front ∙ ap (λ n. drop n (take c.min-end.result b)) c.min-start.ensures ∙ ap (λ e. drop (min from e) (take e b)) c.min-end.ensures ∙ at
+    c.split_at-2.ensures.back ∙ ap (drop c.min-start.result) c.split_at.ensures.front ∙ ap (λ n. drop n (take c.min-end.result b)) c.min-start.ensures ∙ ap (λ e. drop (min from e) (take e b)) c.min-end.ensures ∙ at

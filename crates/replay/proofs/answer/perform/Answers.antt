@@ -16,12 +16,12 @@ returns-in-Start g c =
 pub returns-in-Connect : goal.returns-in-Connect
 returns-in-Connect g c =
     let a = c.args.file.now in
-    let e = c.connect-next.ensures in
+    let e = c.connect_next.ensures in
     record {
       ok = e.ok;
       file = e.file;
       place = e.place ∙ sym (ap (place_after _ a.place) c.in-Connect.is);
-      turn = command_turn g.V.CoinsView g.C.SpendCondition _ _ a.place _ _ c.connect-next.result c.args.ledger.now c.connect-next.new.ledger refl c.in-Connect.is e.turn;
+      turn = command_turn g.V.CoinsView g.C.SpendCondition _ _ a.place _ _ c.connect_next.result c.args.ledger.now c.connect_next.new.ledger refl c.in-Connect.is e.turn;
     }
 
 pub returns-in-Disconnect : goal.returns-in-Disconnect

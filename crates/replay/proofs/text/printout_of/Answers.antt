@@ -16,13 +16,13 @@ loop-line-preserved g c =
       e.ok,
       inv.1,
       e.file ∙ inv.2,
-      go_on g.V.CoinsView g.C.SpendCondition c.args.blocks.now _ _ _ _ _ t.0 _ _ _ _ _ c.in-Some.line c.args.ledger.now c.loop-line.ledger c.next-line.new.ledger inv.2 t.1 t.2 t.3 c.in-ok-append-2.ensures t.4 inv.3,
+      go_on g.V.CoinsView g.C.SpendCondition c.args.blocks.now _ _ _ _ _ t.0 _ _ _ _ _ c.in-Some.line c.args.ledger.now c.loop-line.ledger c.next_line.new.ledger inv.2 t.1 t.2 t.3 c.in_ok-append-2.ensures t.4 inv.3,
     )
 
 pub returns : goal.returns
 returns g c =
     let inv = c.loop-line.invariant in
-    let t = c.in-default.ensures in
+    let t = c.in_default.ensures in
     let all = end g.V.CoinsView g.C.SpendCondition c.args.blocks.now c.args.script.now _ _ _ _ c.args.ledger.now c.loop-line.ledger inv.1 t.turn.0 inv.3 in
     record {
       ok = t.ok;

@@ -7,27 +7,27 @@ use Rattle.cache.specs.Rules.{over_below}
 use Rattle.cache.proofs.Turns.{kept_moved}
 use Rattle.cache.proofs.cache.CacheCoinsView.next.Goals as goal
 
-pub next-over-requires : goal.next-over-requires
-next-over-requires g c =
-    let same = c.as-slice.ensures.value in
+pub next_over-requires : goal.next_over-requires
+next_over-requires g c =
+    let same = c.as_slice.ensures.value in
     record {
       ok = c.requires.0;
       sorted = subst (Sorted outpoints) (sym same) c.requires.1.sorted;
       within = omega (arith, c.above-start.ensures.within, ap length same);
-      first = ap (λ x. next_of outpoints x c.as-slice.result.now) c.copied.ensures ∙ ap (λ x. next_of outpoints (option_map (λ x. x.now) c.args.from) x) same ∙ c.above-start.ensures.first ∙ ap (λ x. slice_get x c.above-start.result) (sym same);
+      first = ap (λ x. next_of outpoints x c.as_slice.result.now) c.copied.ensures ∙ ap (λ x. next_of outpoints (option_map (λ x. x.now) c.args.from) x) same ∙ c.above-start.ensures.first ∙ ap (λ x. slice_get x c.above-start.result) (sym same);
     }
 
 pub returns : goal.returns
 returns g c =
     let v = g.V.CoinsView in
     let s = c.args.self.now in
-    let e = c.next-over.ensures in
+    let e = c.next_over.ensures in
     let rows = v.sorted s.below c.requires.0 in
     record {
       well = (e.ok, kept_moved _ _ _ _ _ c.requires.1 rows _ _ e.map e.fixed);
       fixed = e.fixed;
       map = ap (over_below (vec_items s.table.entries)) e.map;
-      value = e.value ∙ ap (λ x. next_of outpoints x (over_below c.as-slice.result.now (v.coins s.below))) c.copied.ensures ∙ ap (λ x. next_of outpoints (option_map (λ x. x.now) c.args.from) (over_below x (v.coins s.below))) c.as-slice.ensures.value;
+      value = e.value ∙ ap (λ x. next_of outpoints x (over_below c.as_slice.result.now (v.coins s.below))) c.copied.ensures ∙ ap (λ x. next_of outpoints (option_map (λ x. x.now) c.args.from) (over_below x (v.coins s.below))) c.as_slice.ensures.value;
       entries = refl;
       below = e.map;
     }

@@ -25,7 +25,7 @@ returns-then-self-most g c =
     let rows = v.sorted s.below c.requires.0 in
     let there = seen c.args.at (vec_items s.table.entries) c.in-Ok.i c.index.result.now c.in-Ok.ensures.2 c.index.ensures in
     let full : v.most s.below ≤ length (over_below (vec_items s.table.entries) (v.coins s.below)) = omega (arith, c.capacity-most.ensures, c.if-self-most.true, c.requires.1.counted) in
-    record { well = c.requires; fixed = refl; map = refl; value = put_full (v.most s.below) c.args.at (over_below es m) (over_at _ _ _ _ _ c.requires.1 rows _ _ there ∙ c.in-default.is) full; entries = refl; below = refl }
+    record { well = c.requires; fixed = refl; map = refl; value = put_full (v.most s.below) c.args.at (over_below es m) (over_at _ _ _ _ _ c.requires.1 rows _ _ there ∙ c.in_default.is) full; entries = refl; below = refl }
 
 pub returns-in-Some-look : goal.returns-in-Some-look
 returns-in-Some-look g c =
@@ -45,7 +45,7 @@ returns-then-self-most-2 g c =
     let es = vec_items s.table.entries in
     let m = v.coins s.below in
     let rows = v.sorted s.below c.requires.0 in
-    let e = c.in-default-look.ensures in
+    let e = c.in_default-look.ensures in
     let none : coin_at c.args.at (over_below es m) ≡ None = over_at _ _ _ _ _ c.requires.1 rows c.args.at None c.in-Err.ensures.2 ∙ sym e.value in
     let full : v.most s.below ≤ length (over_below es m) = omega (arith, c.capacity-most.ensures, c.if-self-most-2.true, c.requires.1.counted) in
     record { well = (e.well, kept_moved _ _ _ _ _ c.requires.1 rows _ _ e.map e.fixed); fixed = e.fixed; map = ap (over_below es) e.map; value = put_full (v.most s.below) c.args.at (over_below es m) none full; entries = refl; below = e.map }
@@ -58,10 +58,10 @@ returns-else-self-most g c =
     let m = v.coins s.below in
     let rows = v.sorted s.below c.requires.0 in
     let there = seen c.args.at (vec_items s.table.entries) c.in-Ok.i c.index.result.now c.in-Ok.ensures.2 c.index.ensures in
-    let none = over_at _ _ _ _ _ c.requires.1 rows _ _ there ∙ c.in-default.is in
+    let none = over_at _ _ _ _ _ c.requires.1 rows _ _ there ∙ c.in_default.is in
     let less : s.count < v.most s.below = omega (arith, c.capacity-most.ensures, c.if-self-most.false) in
     let room : length (over_below es m) < v.most s.below = omega (arith, c.requires.1.counted) in
-    let says = says_is _ _ _ _ _ _ _ _ _ _ _ (put_replaced _ _ _ _ _ c.requires.1 rows c.args.at c.args.coin _ there c.in-default.is less) c.replace.ensures.items (omega (arith, c.replace.ensures.held, c.requires.1.held)) refl refl refl in
+    let says = says_is _ _ _ _ _ _ _ _ _ _ _ (put_replaced _ _ _ _ _ c.requires.1 rows c.args.at c.args.coin _ there c.in_default.is less) c.replace.ensures.items (omega (arith, c.replace.ensures.held, c.requires.1.held)) refl refl refl in
     record { well = (c.requires.0, says.0); fixed = refl; map = says.1; value = put_yes (v.most s.below) c.args.at (over_below es m) none room; entries = c.replace.ensures.items ∙ sym (ap (λ x. put_entry x c.args.at c.args.coin es) there); below = sym (ap (λ x. room_under x es m) there) }
 
 pub returns-else-self-most-2 : goal.returns-else-self-most-2
@@ -72,7 +72,7 @@ returns-else-self-most-2 g c =
     let es = vec_items s.table.entries in
     let m = v.coins s.below in
     let rows = v.sorted s.below c.requires.0 in
-    let e = c.in-default-look.ensures in
+    let e = c.in_default-look.ensures in
     let t = c.enter.ensures in
     let new = c.in-Err.ensures.2 in
     let none : coin_at k (over_below es m) ≡ None = over_at _ _ _ _ _ c.requires.1 rows k None new ∙ sym e.value in

@@ -8,19 +8,19 @@ use Rattle.cache.specs.Rules.{over_below, with_room, take_entry, room_under, bel
 use Rattle.cache.proofs.Turns.{seen, over_at, kept_moved, says_is, take_spent, take_fresh, few_over, few_new, one_counted, take_flag, roomy}
 use Rattle.cache.proofs.cache.CacheCoinsView.take.Goals as goal
 
-pub returns-in-default : goal.returns-in-default
-returns-in-default g c =
+pub returns-in_default : goal.returns-in_default
+returns-in_default g c =
     let v = g.V.CoinsView in
     let s = c.args.self.now in
     let es = vec_items s.table.entries in
     let k = c.args.at.now in
     let rows = v.sorted s.below c.requires.0 in
     let there = seen k es c.in-Ok.i c.index.result.now c.in-Ok.ensures.2 c.index.ensures in
-    let none = over_at _ _ _ _ _ c.requires.1 rows k _ there ∙ c.in-default.is in
+    let none = over_at _ _ _ _ _ c.requires.1 rows k _ there ∙ c.in_default.is in
     record { well = c.requires; fixed = refl; map = sym (remove_absent outpoints k _ none); value = sym none; entries = refl; below = refl }
 
-pub overflow-sub-self : goal.overflow-sub-self
-overflow-sub-self g c =
+pub overflow_sub-self : goal.overflow_sub-self
+overflow_sub-self g c =
     let v = g.V.CoinsView in
     let s = c.args.self.now in
     let es = vec_items s.table.entries in
@@ -29,8 +29,8 @@ overflow-sub-self g c =
     let there = seen k es c.in-Ok.i c.index.result.now c.in-Ok.ensures.2 c.index.ensures in
     one_counted _ _ _ _ _ k _ c.requires.1 (over_at _ _ _ _ _ c.requires.1 rows k _ there ∙ c.in-Some.is)
 
-pub overflow-sub-self-in-Ok : goal.overflow-sub-self-in-Ok
-overflow-sub-self-in-Ok g c =
+pub overflow_sub-self-in-Ok : goal.overflow_sub-self-in-Ok
+overflow_sub-self-in-Ok g c =
     let v = g.V.CoinsView in
     let s = c.args.self.now in
     let es = vec_items s.table.entries in
@@ -49,8 +49,8 @@ returns-then-e g c =
     let rows = v.sorted s.below c.requires.0 in
     let there = seen k es c.in-Ok.i c.index.result.now c.in-Ok.ensures.2 c.index.ensures in
     let coin = over_at _ _ _ _ _ c.requires.1 rows k _ there ∙ c.in-Some.is in
-    let says = says_is _ _ _ _ _ _ _ _ _ _ _ (take_fresh _ _ _ _ _ c.requires.1 rows k c.in-Some.coin _ there c.in-Some.is c.if-e.true) c.drop-at.ensures.items (omega (arith, c.drop-at.ensures.held, c.requires.1.held)) refl refl refl in
-    record { well = (c.requires.0, says.0); fixed = refl; map = says.1; value = sym coin; entries = c.drop-at.ensures.items ∙ take_flag k c.in-Some.coin _ es true there c.if-e.true; below = sym (ap (λ x. room_under x es m) there) }
+    let says = says_is _ _ _ _ _ _ _ _ _ _ _ (take_fresh _ _ _ _ _ c.requires.1 rows k c.in-Some.coin _ there c.in-Some.is c.if-e.true) c.drop_at.ensures.items (omega (arith, c.drop_at.ensures.held, c.requires.1.held)) refl refl refl in
+    record { well = (c.requires.0, says.0); fixed = refl; map = says.1; value = sym coin; entries = c.drop_at.ensures.items ∙ take_flag k c.in-Some.coin _ es true there c.if-e.true; below = sym (ap (λ x. room_under x es m) there) }
 
 pub returns-else-e : goal.returns-else-e
 returns-else-e g c =
@@ -65,19 +65,19 @@ returns-else-e g c =
     let says = says_is _ _ _ _ _ _ _ _ _ _ _ (take_spent _ _ _ _ _ c.requires.1 rows k c.in-Some.coin coin ((c.requires.1.step k _ there).2 c.if-e.false) (few_over _ _ _ _ _ c.requires.1 rows k spent _ there)) c.spend.ensures.items (omega (arith, c.spend.ensures.held, c.requires.1.held)) refl refl refl in
     record { well = (c.requires.0, says.0); fixed = refl; map = says.1; value = sym coin; entries = c.spend.ensures.items ∙ take_flag k c.in-Some.coin _ es false there c.if-e.false; below = sym (ap (λ x. room_under x es m) there) }
 
-pub returns-in-default-look : goal.returns-in-default-look
-returns-in-default-look g c =
+pub returns-in_default-look : goal.returns-in_default-look
+returns-in_default-look g c =
     let v = g.V.CoinsView in
     let s = c.args.self.now in
     let es = vec_items s.table.entries in
     let k = c.args.at.now in
     let rows = v.sorted s.below c.requires.0 in
-    let e = c.in-default-look.ensures in
+    let e = c.in_default-look.ensures in
     let none = over_at _ _ _ _ _ c.requires.1 rows k None c.in-Err.ensures.2 ∙ sym e.value in
     record { well = (e.well, kept_moved _ _ _ _ _ c.requires.1 rows _ _ e.map e.fixed); fixed = e.fixed; map = ap (over_below es) e.map ∙ sym (remove_absent outpoints k _ none); value = sym none; entries = refl; below = e.map }
 
-pub overflow-sub-self-in-Err : goal.overflow-sub-self-in-Err
-overflow-sub-self-in-Err g c =
+pub overflow_sub-self-in-Err : goal.overflow_sub-self-in-Err
+overflow_sub-self-in-Err g c =
     let v = g.V.CoinsView in
     let s = c.args.self.now in
     let es = vec_items s.table.entries in

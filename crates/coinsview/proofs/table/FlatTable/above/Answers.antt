@@ -7,8 +7,8 @@ use Rattle.coinsview.specs.Table.{empty_cell, used_cells}
 use Rattle.coinsview.proofs.Tables.{spot}
 use Rattle.coinsview.proofs.table.FlatTable.above.Goals as goal
 
-pub overflow-add-result : goal.overflow-add-result
-overflow-add-result c =
+pub overflow_add-result : goal.overflow_add-result
+overflow_add-result c =
     let s = c.args.self.now in
     let l = spot _ _ _ c.requires c.in-Ok.i c.in-Ok.ensures in
     let w = c.requires.within in

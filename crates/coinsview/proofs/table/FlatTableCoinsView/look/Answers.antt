@@ -2,8 +2,8 @@ use Rattle.std.proofs.Common.{sym, refl, arith}
 use Rattle.coinsview.proofs.Tables.{spot, coin_there}
 use Rattle.coinsview.proofs.table.FlatTableCoinsView.look.Goals as goal
 
-pub offset-bounds-self-i : goal.offset-bounds-self-i
-offset-bounds-self-i c =
+pub offset_bounds-self-i : goal.offset_bounds-self-i
+offset_bounds-self-i c =
     let l = spot _ _ _ c.requires c.in-Ok.i c.in-Ok.ensures in
     let w = c.requires.within in
     let z = c.requires.small in

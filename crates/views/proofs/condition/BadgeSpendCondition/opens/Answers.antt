@@ -11,4 +11,4 @@ both : (k : ℕ) (xs ys zs : List ℕ) (r : Bool) → k ≡ 1 → ys ≡ zs → 
 both k xs ys zs r e f h = tested xs ys r h ∙ ap (bytes_eq xs) f ∙ ap (λ b. b && bytes_eq xs zs) (sym (eq-eqb k 1 e))
 
 pub returns-then-lock-eq1 : goal.returns-then-lock-eq1
-returns-then-lock-eq1 c = both _ _ _ _ _ c.if-lock-eq1.true c.argument-bytes.ensures (slice_eq-Decides Decides-eqb _ _ _ c.eq.ensures)
+returns-then-lock-eq1 c = both _ _ _ _ _ c.if-lock-eq1.true c.argument_bytes.ensures (slice_eq-Decides Decides-eqb _ _ _ c.eq.ensures)
