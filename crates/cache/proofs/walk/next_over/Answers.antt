@@ -6,7 +6,7 @@ pub returns-then-before : goal.returns-then-before
 returns-then-before g c =
     let v = g.V.CoinsView in
     let l = c.loop-i in
-    let e = c.next_found.ensures in
+    let e = c.next-found.ensures in
     let rows = v.sorted c.args.below.now c.requires.ok in
     let found = asked l.last _ _ (v.coins c.args.below.now) _ e.value c.as_ref.ensures.value l.invariant.2 in
     record { ok = e.well; fixed = e.fixed ∙ l.invariant.1; map = e.map ∙ l.invariant.2; value = found_before _ _ _ c.requires.sorted rows l.i l.invariant.3 _ c.loop-i-test.true c.index-entries-i.is _ found (sym c.if-before.ensures) ∙ l.invariant.4 }
@@ -15,7 +15,7 @@ pub returns-in-Some : goal.returns-in-Some
 returns-in-Some g c =
     let v = g.V.CoinsView in
     let l = c.loop-i in
-    let e = c.next_found.ensures in
+    let e = c.next-found.ensures in
     let rows = v.sorted c.args.below.now c.requires.ok in
     let found = asked l.last _ _ (v.coins c.args.below.now) _ e.value c.as_ref.ensures.value l.invariant.2 in
     record { ok = e.well; fixed = e.fixed ∙ l.invariant.1; map = e.map ∙ l.invariant.2; value = found_entry _ _ _ c.requires.sorted rows l.i l.invariant.3 _ c.loop-i-test.true c.index-entries-i.is _ _ found (sym c.if-before.ensures) c.in-Some.is ∙ l.invariant.4 }
@@ -24,7 +24,7 @@ pub loop-i-preserved : goal.loop-i-preserved
 loop-i-preserved g c =
     let v = g.V.CoinsView in
     let l = c.loop-i in
-    let e = c.next_found.ensures in
+    let e = c.next-found.ensures in
     let rows = v.sorted c.args.below.now c.requires.ok in
     let found = asked l.last _ _ (v.coins c.args.below.now) _ e.value c.as_ref.ensures.value l.invariant.2 in (
       e.well,

@@ -1,5 +1,5 @@
 use Rattle.std.proofs.Common.{length, None, vec_items, sym, refl, ap, ◌∙◌, ltb-false, ltb-true}
-use Rattle.entries.specs.Entries.{with_entry, clean}
+use Rattle.entries.specs.Entries.{with_entry}
 use Rattle.cache.specs.Rules.{over_below}
 use Rattle.cache.proofs.Turns.{seen, over_at, kept_moved, says_is, look_clean, look_kept, look_entered, look_passed}
 use Rattle.cache.proofs.cache.CacheCoinsView.look.Goals as goal

@@ -1,7 +1,7 @@
 use Rattle.std.proofs.Common.{◌≡◌, ◌+◌, ◌<◌, ◌≤◌, length, Some, None, vec_items, sym, refl, ap, ◌∙◌, arith}
 use Rattle.coinsview.specs.Meaning.{coin_at, with_coin}
 use Rattle.coinsview.proofs.Puts.{put_exists, put_full, put_yes}
-use Rattle.entries.specs.Entries.{with_entry, created}
+use Rattle.entries.specs.Entries.{with_entry}
 use Rattle.cache.specs.Rules.{over_below, with_room, put_entry, room_under, below_with_room}
 use Rattle.cache.proofs.Turns.{seen, over_at, kept_moved, says_is, put_replaced, put_created, roomy}
 use Rattle.cache.proofs.cache.CacheCoinsView.put.Goals as goal
