@@ -28,7 +28,7 @@ impl SpendCondition for Badge {
     ghost opens = { λ _. badge_opens };
 
     fn opens(&self, lock: &Lock, witness: &[u8], _height: u32) -> bool {
-        lock.kind == 1 && witness == argument_bytes(lock)
+        lock.kind == 1 && witness == argument_bytes(lock).as_slice()
     }
 }
 

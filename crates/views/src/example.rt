@@ -17,8 +17,19 @@ pub struct SpentTwice {
 }
 
 // Takes the coin of an outpoint, puts another there, takes that, and flushes: the base has none there, and is otherwise
-// as the map was. Where there was a coin, the put is granted, and the second take finds the other coin.
-pub fn spend_twice<V: CoinsView>(view: &mut V, at: &Outpoint, other: Coin) -> SpentTwice
+// as the map was.
+pub fn spend_twice<V: CoinsView>(view: &mut V, at: &Outpoint, other: Coin)
+    requires { V.CoinsView.ok view.old }
+    ensures well { V.CoinsView.ok view.new }
+    ensures map { V.CoinsView.coins view.new ≡ without at.now (V.CoinsView.coins view.old) }
+    ensures bottom { V.CoinsView.bottom view.new ≡ without at.now (V.CoinsView.coins view.old) }
+    ensures none { coin_at at.now (V.CoinsView.bottom view.new) ≡ None }
+{
+    let _ = spend_and_answer(view, at, other);
+}
+
+// The same, with what each call answered: where there was a coin, the put is granted, and the second take finds the other coin.
+pub fn spend_and_answer<V: CoinsView>(view: &mut V, at: &Outpoint, other: Coin) -> SpentTwice
     requires { V.CoinsView.ok view.old }
     ensures well { V.CoinsView.ok view.new }
     ensures fixed { V.CoinsView.most view.new ≡ V.CoinsView.most view.old }

@@ -7,7 +7,7 @@ use Rattle.maps.proofs.Laws.{look_insert_same, look_remove_same, length_remove, 
 use Rattle.coinsview.specs.Meaning.{Coins, coin_at, without, put_answer, put_map}
 use Rattle.coinsview.proofs.Puts.{put_yes}
 use Rattle.coinsview.specs.declared.fault.ViewFault.{ViewFault}
-use Rattle.views.proofs.example.spend_twice.Goals as goal
+use Rattle.views.proofs.example.spend_and_answer.Goals as goal
 
 -- a put where there was no coin, granted or refused, and then a take
 there_and_back : (r : Result Unit ViewFault) (k : Outpoint) (c : Coin) (m : Coins) → coin_at k m ≡ None → without k (put_map r k c m) ≡ m
