@@ -5,9 +5,8 @@ use Rattle.std.specs.Fmt.{digits, digits_onto, digit_glyph}
 use Rattle.refusal.specs.Numbers.{number_of, word_of}
 use Rattle.refusal.specs.declared.Reason.{Reason}
 use Rattle.refusal.specs.declared.Reason.TheVariants.{Cut, LongForm, OverCount, Tail, OverSize, FileOverSize, FileCut, BadLine, Ended, Short, Parent, LastHeight, LogFull, NoCoinbase, Claim, Coinbase2, CbData, NoInput, NoOutput, Money, Under, Null, Missing, Immature, Shut, Exists, Full, Nothing, Parameter, NotEmpty, Started, NotStarted}
-use Rattle.printout.specs.declared.Line.{Line}
 use Rattle.printout.specs.declared.Line.TheVariants.{Start, Connect, Disconnect, Balance, Refused}
-use Rattle.printout.specs.Texts.{text_of, lf_free, clean_word, OneLineEach, ReadsAsPrinted}
+use Rattle.printout.specs.Texts.{lf_free, clean_word, OneLineEach, ReadsAsPrinted}
 
 both : (a b : List ℕ) → lf_free a ≡ true → lf_free b ≡ true → lf_free (a ++ b) ≡ true
 both [] b p q = q

@@ -1,5 +1,5 @@
 -- One byte more of a line.
-use Rattle.std.proofs.Common.{◌≡◌, ℕ, ◌+◌, ◌-◌, ◌<◌, ◌≤◌, List, [], ◌∷◌, length, get_or, take, drop, None, Option, refl, ◌∙◌, add-one, arith, length-drop, drop-cons, eq-eqb, ne_eqb}
+use Rattle.std.proofs.Common.{◌≡◌, ℕ, ◌+◌, ◌-◌, ◌<◌, ◌≤◌, List, [], ◌∷◌, length, get_or, take, drop, None, Option, ◌∙◌, add-one, arith, length-drop, drop-cons, eq-eqb, ne_eqb}
 use native.Mathlib.Nat.{sub-zero}
 use Rattle.std.proofs.lemmas.List.{take_more, take_all, drop_all}
 use Rattle.script.specs.Cuts.{lines_of, lines_from, kept, open_end}

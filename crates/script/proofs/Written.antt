@@ -1,6 +1,6 @@
 -- A script that was written line by line.
-use Rattle.std.proofs.Common.{◌≡◌, ℕ, List, [], ◌∷◌, ◌++◌, sym, refl, ap, ◌∙◌, append_assoc, append-nil, ne_eqb}
-use Rattle.script.specs.Cuts.{lines_from, lines_of, kept, open_end, OneLine, CutsAsWritten, written, AllLines}
+use Rattle.std.proofs.Common.{◌≡◌, ℕ, List, [], ◌∷◌, ◌++◌, sym, ap, ◌∙◌, append_assoc, append-nil, ne_eqb}
+use Rattle.script.specs.Cuts.{lines_from, lines_of, kept, OneLine, CutsAsWritten, written}
 
 -- the bytes of a line gather before what follows
 gather : (bs l s : List ℕ) → OneLine l → lines_from bs (l ++ s) ≡ lines_from (bs ++ l) s

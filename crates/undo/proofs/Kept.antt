@@ -1,6 +1,6 @@
 -- The entries by their cells. Assumes nothing.
 use Rattle.std.proofs.Common.{◌≡◌, ℕ, zero, suc, ◌+◌, ◌-◌, ◌<◌, ◌≤◌, Bool, true, false, cond, ◌⊎◌, List, [], ◌∷◌, ◌++◌, reverse, length, get_or, take, drop, set, sym, refl, ap, ◌∙◌, inl, inr, append_assoc, append-nil, add_comm, arith}
-use Rattle.std.proofs.lemmas.List.{length-take-le, length-drop, length-reverse, reverse-append, get_or-drop, take_more_set, take_more, take_at, drop-set-lt, drop-drop, drop-take, take-append-drop, at_drop_more, get_or-take}
+use Rattle.std.proofs.lemmas.List.{length-take-le, length-drop, length-reverse, reverse-append, get_or-drop, take_more_set, take_more, take_at, drop-set-lt, drop-drop, take-append-drop, at_drop_more, get_or-take}
 use Rattle.undo.specs.declared.Record.{Record}
 use Rattle.undo.specs.declared.Undo.{Undo}
 use Rattle.undo.specs.Entries.{entries, mark, newest}

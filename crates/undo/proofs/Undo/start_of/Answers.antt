@@ -1,4 +1,4 @@
-use Rattle.std.proofs.Common.{◌≡◌, ℕ, suc, ◌+◌, ◌-◌, ◌<◌, ◌≤◌, Bool, true, false, cond, length, get_or, sym, ap, ◌∙◌, subst, inl, inr, arith}
+use Rattle.std.proofs.Common.{◌≡◌, ℕ, suc, ◌+◌, ◌-◌, ◌<◌, ◌≤◌, Bool, true, false, cond, length, get_or, sym, subst, inl, inr, arith}
 use Rattle.undo.specs.declared.Undo.{Undo}
 use Rattle.undo.specs.declared.Record.{Record}
 use Rattle.undo.specs.Entries.{entries, mark}
@@ -19,11 +19,11 @@ turn u blocks at left d b h p q m s =
 pub loop-at-init : goal.loop-at-init
 loop-at-init c = let u = c.args.self.now in (omega arith, passed_none u.cells u.len c.args.blocks (fits u))
 
-pub loop-at-preserved-then-is-mark : goal.loop-at-preserved-then-is-mark
-loop-at-preserved-then-is-mark c =
+pub loop-at-preserved-then-is_mark : goal.loop-at-preserved-then-is_mark
+loop-at-preserved-then-is_mark c =
     let u = c.args.self.now in
     let l = c.loop-at in
-    (omega arith, turn u c.args.blocks l.at l.left _ true l.invariant.0 (omega arith) (omega arith) (sym c.if-is-mark.ensures) l.invariant.1)
+    (omega arith, turn u c.args.blocks l.at l.left _ true l.invariant.0 (omega arith) (omega arith) (sym c.if-is_mark.ensures) l.invariant.1)
 
 pub loop-at-preserved : goal.loop-at-preserved
 loop-at-preserved c =
@@ -31,7 +31,7 @@ loop-at-preserved c =
     let l = c.loop-at in
     let e : suc (l.left - 1) ≡ l.left = omega arith in (
       omega arith,
-      subst (Passed u.cells u.len c.args.blocks (l.at - 1)) e (turn u c.args.blocks l.at l.left _ false l.invariant.0 (omega arith) (omega arith) (sym c.if-is-mark.ensures) l.invariant.1),
+      subst (Passed u.cells u.len c.args.blocks (l.at - 1)) e (turn u c.args.blocks l.at l.left _ false l.invariant.0 (omega arith) (omega arith) (sym c.if-is_mark.ensures) l.invariant.1),
     )
 
 pub returns-else-left-gt0 : goal.returns-else-left-gt0
