@@ -4,7 +4,7 @@ use Rattle.compact.specs.Compact.{read_size}
 use Rattle.compact.specs.declared.SizeFault.{SizeFault}
 use Rattle.compact.specs.declared.SizeFault.TheVariants as size
 use Rattle.blockbytes.specs.declared.fault.FormFault.{FormFault}
-use Rattle.blockbytes.specs.declared.fault.FormFault.TheVariants.{Cut, LongForm, OverCount, Tail, OverSize}
+use Rattle.blockbytes.specs.declared.fault.FormFault.TheVariants.{Cut, LongForm, OverCount, Tail}
 
 -- a step, and then another from where it ended
 abbrev pub then : {X Y : Type 0} → Result X FormFault → (X → Result Y FormFault) → Result Y FormFault

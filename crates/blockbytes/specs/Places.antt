@@ -1,5 +1,5 @@
 -- The values that stand at a place of bytes whose form is right.
-use Rattle.std.specs.Prelude.{ℕ, zero, suc, ◌+◌, ◌*◌, Bool, true, false, cond, List, [], ◌∷◌, map, length, take, drop, Ok, Err, Result, nat_lt, slice_index}
+use Rattle.std.specs.Prelude.{ℕ, zero, suc, ◌+◌, Bool, true, false, cond, List, [], ◌∷◌, length, take, drop, Ok, Err, Result, nat_lt, slice_index}
 use Rattle.compact.specs.Compact.{four_at, eight_at}
 use Rattle.blockbytes.specs.declared.fault.FormFault.{FormFault}
 use Rattle.blockbytes.specs.declared.fault.FormFault.TheVariants.{OverSize}

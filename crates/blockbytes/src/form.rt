@@ -1,13 +1,13 @@
 // The check of a block's form: each function starts at a place and answers the place after, or the first fault.
 ghost use Rattle.std.specs.Prelude.{◌≡◌, ◌<◌};
-ghost use Rattle.blockbytes.specs.Form.{field as fieldForm, count as countForm, counted, input as inputForm, output as outputForm, transaction as transactionForm, block as blockForm};
+ghost use Rattle.blockbytes.specs.Form.{field as field_form, count as count_form, counted, input as input_form, output as output_form, transaction as transaction_form, block as block_form};
 
 use crate::fault::FormFault;
 use compact::{SizeFault, read_size};
 
 // Past a field of `n` bytes.
 fn field(b: &[u8], at: usize, n: usize) -> Result<usize, FormFault>
-    ensures { result ≡ fieldForm n b.now at }
+    ensures { result ≡ field_form n b.now at }
 {
     if b.len() < at || b.len() - at < n {
         return Err(FormFault::Cut { at });
@@ -18,7 +18,7 @@ fn field(b: &[u8], at: usize, n: usize) -> Result<usize, FormFault>
 // A count of at most `limit`, and the place after it. Such a count has one byte; the compact size tells the faults apart.
 fn count(b: &[u8], at: usize, limit: u8) -> Result<(usize, usize), FormFault>
     requires { limit < 253 }
-    ensures { result ≡ countForm limit b.now at }
+    ensures { result ≡ count_form limit b.now at }
 {
     if b.len() <= at {
         return Err(FormFault::Cut { at });
@@ -35,7 +35,7 @@ fn count(b: &[u8], at: usize, limit: u8) -> Result<(usize, usize), FormFault>
 
 // Past an input: one test where all of it is there, else its fields one by one.
 fn input(b: &[u8], at: usize) -> Result<usize, FormFault>
-    ensures { result ≡ inputForm b.now at }
+    ensures { result ≡ input_form b.now at }
 {
     if at < b.len() && b.len() - at >= 37 {
         let size = b[at + 36] as usize;
@@ -47,7 +47,7 @@ fn input(b: &[u8], at: usize) -> Result<usize, FormFault>
 }
 
 fn input_fields(b: &[u8], at: usize) -> Result<usize, FormFault>
-    ensures { result ≡ inputForm b.now at }
+    ensures { result ≡ input_form b.now at }
 {
     let at = field(b, at, 32)?;
     let at = field(b, at, 4)?;
@@ -56,7 +56,7 @@ fn input_fields(b: &[u8], at: usize) -> Result<usize, FormFault>
 }
 
 fn inputs(b: &[u8], at: usize) -> Result<usize, FormFault>
-    ensures { result ≡ counted (inputForm b.now) b.now at }
+    ensures { result ≡ counted (input_form b.now) b.now at }
 {
     let (n, mut at) = count(b, at, 64)?;
     for _i in 0..n {
@@ -66,7 +66,7 @@ fn inputs(b: &[u8], at: usize) -> Result<usize, FormFault>
 }
 
 fn output(b: &[u8], at: usize) -> Result<usize, FormFault>
-    ensures { result ≡ outputForm b.now at }
+    ensures { result ≡ output_form b.now at }
 {
     let at = field(b, at, 8)?;
     let at = field(b, at, 1)?;
@@ -75,7 +75,7 @@ fn output(b: &[u8], at: usize) -> Result<usize, FormFault>
 
 // Past a count of outputs, which have one size: one test where all are there, else one by one.
 fn outputs(b: &[u8], at: usize) -> Result<usize, FormFault>
-    ensures { result ≡ counted (outputForm b.now) b.now at }
+    ensures { result ≡ counted (output_form b.now) b.now at }
 {
     let (n, mut at) = count(b, at, 64)?;
     if b.len() - at >= 17 * n {
@@ -88,7 +88,7 @@ fn outputs(b: &[u8], at: usize) -> Result<usize, FormFault>
 }
 
 fn transaction(b: &[u8], at: usize) -> Result<usize, FormFault>
-    ensures { result ≡ transactionForm b.now at }
+    ensures { result ≡ transaction_form b.now at }
 {
     let at = field(b, at, 32)?;
     let at = inputs(b, at)?;
@@ -96,7 +96,7 @@ fn transaction(b: &[u8], at: usize) -> Result<usize, FormFault>
 }
 
 fn transactions(b: &[u8], at: usize) -> Result<usize, FormFault>
-    ensures { result ≡ counted (transactionForm b.now) b.now at }
+    ensures { result ≡ counted (transaction_form b.now) b.now at }
 {
     let (n, mut at) = count(b, at, 64)?;
     for _i in 0..n {
@@ -107,7 +107,7 @@ fn transactions(b: &[u8], at: usize) -> Result<usize, FormFault>
 
 // Where the block ends that the bytes are, or the first fault.
 pub fn block(b: &[u8]) -> Result<usize, FormFault>
-    ensures { result ≡ blockForm b.now }
+    ensures { result ≡ block_form b.now }
 {
     let at = field(b, 0, 32)?;
     let at = field(b, at, 32)?;

@@ -1,9 +1,9 @@
 -- Reading and writing compact sizes are each other's inverse.
-use Rattle.std.proofs.Common.{◌≡◌, ℕ, zero, suc, ◌+◌, ◌^◌, ◌<◌, ◌≤◌, ◌⊎◌, List, [], ◌∷◌, ◌++◌, length, get_or, drop, Ok, Err, Result, sym, refl, ap, ◌∙◌, ⊎_elim, arith, Bor, le-ltb, lt-ltb, MatchResult}
+use Rattle.std.proofs.Common.{◌≡◌, ℕ, suc, ◌^◌, ◌<◌, ◌≤◌, ◌⊎◌, List, ◌∷◌, ◌++◌, length, get_or, drop, Ok, Err, Result, sym, refl, ap, ◌∙◌, ⊎_elim, arith, Bor, le-ltb, lt-ltb, MatchResult}
 use Rattle.std.proofs.lemmas.Bool.Decides.{nat_tests}
 use Rattle.compact.specs.declared.SizeFault.{SizeFault}
 use Rattle.compact.specs.declared.SizeFault.TheVariants.{LongForm}
-use Rattle.compact.specs.Compact.{le, encode, two_at, four_at, eight_at, span, value, least, read_size, Bytes, WrittenIsRead, ReadIsWritten, OneEncoding, SmallIsAByte, NothingIsCut, Examples}
+use Rattle.compact.specs.Compact.{le, encode, span, value, least, read_size, Bytes, WrittenIsRead, ReadIsWritten, OneEncoding, SmallIsAByte, NothingIsCut, Examples}
 use Rattle.compact.proofs.Parts.{unle, from, whole, le_at, unle_le, unle_lt, two_is, four_is, eight_is, encode_1, encode_2, encode_4, encode_8}
 
 -- a form that is whole and not too long is read

@@ -1,5 +1,5 @@
 -- Numbers as bytes, least first, over any width; a list as its first bytes and the rest.
-use Rattle.std.proofs.Common.{◌≡◌, ℕ, zero, suc, ◌+◌, ◌-◌, ◌*◌, ◌/◌, ◌%◌, ◌^◌, ◌<◌, ◌≤◌, List, [], ◌∷◌, ◌++◌, length, get_or, take, drop, sym, refl, ap, ◌∙◌, add-zero, pow-suc, zero-add, arith, lit<, length-drop, take_all, drop-cons, le-ltb, lt-ltb}
+use Rattle.std.proofs.Common.{◌≡◌, ℕ, zero, suc, ◌+◌, ◌-◌, ◌*◌, ◌/◌, ◌%◌, ◌^◌, ◌<◌, ◌≤◌, List, [], ◌∷◌, ◌++◌, length, get_or, take, drop, refl, ap, ◌∙◌, add-zero, pow-suc, zero-add, arith, lit<, length-drop, take_all, drop-cons, le-ltb, lt-ltb}
 use Rattle.compact.specs.Compact.{le, encode, two_at, four_at, eight_at, Bytes}
 
 -- the number that bytes write, least first

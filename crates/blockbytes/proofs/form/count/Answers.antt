@@ -21,4 +21,4 @@ returns-in-Err-LongForm c = search rules
 
 pub returns-in-Ok : goal.returns-in-Ok
 returns-in-Ok c =
-    sym (count_over c.args.limit c.args.b.now c.args.at _ _ c.requires (omega arith) (omega arith) (ap read_size (sym c.split-at.ensures.back) ∙ c.in-Ok.ensures.answer))
+    sym (count_over c.args.limit c.args.b.now c.args.at _ _ c.requires (omega arith) (omega arith) (ap read_size (sym c.split_at.ensures.back) ∙ c.in-Ok.ensures.answer))

@@ -4,4 +4,4 @@ use Rattle.blockbytes.proofs.form.outputs.Given as goal
 
 -- what is left to read from here answers what the whole list answers
 abbrev pub invariant-loop-i : goal.invariant-loop-i
-invariant-loop-i l = times l.n (output l.b) l.initial.at ≡ times (l.n - l.-i) (output l.b) l.at
+invariant-loop-i l = times l.n (output l.b) l.initial.at ≡ times (l.n - l._i) (output l.b) l.at
