@@ -1,16 +1,15 @@
 -- A coin taken and noted, or put and noted, is found again on the way back. Assumes nothing.
-use Rattle.std.proofs.Common.{◌≡◌, ℕ, ◌+◌, ◌<◌, ◌≤◌, Bool, true, false, ◌&&◌, ltb, List, ◌∷◌, length, is_ok, Some, None, Ok, Err, Option, Result, sym, refl, ap, ◌∙◌, subst, arith, lt-ltb}
+use Rattle.std.proofs.Common.{◌≡◌, ℕ, ◌≤◌, true, ◌&&◌, ltb, List, ◌∷◌, length, is_ok, Some, None, Ok, ap, ◌∙◌, arith, lt-ltb}
 use Rattle.coins.specs.declared.coin.Coin.{Coin}
 use Rattle.coins.specs.declared.outpoint.Outpoint.{Outpoint}
 use Rattle.coins.proofs.Equals.{coin_itself}
 use Rattle.maps.specs.Maps.{Sorted}
 use Rattle.maps.specs.Keyed.{outpoints}
 use Rattle.maps.proofs.Laws.{look_insert_same, look_remove_same, length_remove, insert_remove, remove_insert}
-use Rattle.coinsview.specs.declared.fault.ViewFault.{ViewFault}
 use Rattle.coinsview.specs.Meaning.{Coins, coin_at, with_coin, without, put_by, put_answer, put_map}
 use Rattle.undo.specs.declared.Record.{Record}
-use Rattle.undo.specs.declared.Record.TheVariants.{Mark, Made, Spent}
-use Rattle.unwinding.specs.Undoing.{Back, own, undone, found, back}
+use Rattle.undo.specs.declared.Record.TheVariants.{Made, Spent}
+use Rattle.unwinding.specs.Undoing.{own, back}
 
 module _ (room : ℕ) (es : List Record) (k : Outpoint) (c : Coin) (m : Coins) where
   -- a spent coin goes back where it was

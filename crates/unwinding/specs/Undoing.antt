@@ -1,7 +1,6 @@
 -- Taking a block back: its undo entries, from the newest to its mark.
 use Rattle.std.specs.Prelude.{ℕ, Bool, true, false, ◌&&◌, List, [], ◌∷◌, is_ok, Some, None, Option}
 use Rattle.coins.specs.declared.coin.Coin.{Coin}
-use Rattle.coins.specs.declared.outpoint.Outpoint.{Outpoint}
 use Rattle.coins.specs.Same.{same_coin}
 use Rattle.coinsview.specs.Meaning.{Coins, coin_at, without, put_answer, put_map}
 use Rattle.undo.specs.declared.Record.{Record}
