@@ -1,5 +1,6 @@
 -- What a block takes from the coins and adds to them. Assumes nothing.
-use Rattle.std.proofs.Common.{◌≡◌, ℕ, ◌+◌, ◌-◌, ◌<◌, ◌≤◌, Bool, true, false, cond, ◌&&◌, T, ltb, leb, List, [], ◌∷◌, length, Some, None, Ok, Err, Option, Result, sym, refl, ap, ◌∙◌, subst, arith, leb→le, ltb-false}
+use Rattle.std.proofs.Common.{◌≡◌, ℕ, ◌+◌, ◌-◌, ◌<◌, ◌≤◌, Bool, true, false, cond, ◌&&◌, ltb, leb, ◌⊎◌, List, [], ◌∷◌, length, Some, None, Ok, Err, Option, Result, sym, refl, ap, ◌∙◌, subst, inl, inr, arith, ltb-false}
+use Rattle.std.proofs.lemmas.Bool.Decides.{leb_tells}
 use Rattle.coins.specs.declared.coin.Coin.{Coin}
 use Rattle.coins.specs.declared.coin.Lock.{Lock}
 use Rattle.coins.specs.declared.outpoint.Outpoint.{Outpoint}
@@ -80,11 +81,9 @@ module _ (opens : Lock → List ℕ → ℕ → Bool) (maturity h : ℕ) where
       (omega (arith, value_without x.outpoint c m here, ih.0), ih.1)
 
 module _ (room h : ℕ) where
-  coin_value : (y : OutputValue) (b t : Bool) (within : T t → y.value ≤ 2100000000000000) (c : Coin) → coin_by y h b t within ≡ Some c → c.value ≡ y.value
-  coin_value y b true within c e =
-      let z : record { value = y.value; lock = y.lock; height = h; coinbase = b; money = within tt } ≡ c = cc in
-      ap (λ x. x.value) (sym z)
-  coin_value y b false within c e = let z : ◌≡◌ {A = ℕ} 0 1 = cc in absurd (omega arith)
+  coin_value : (y : OutputValue) (b : Bool) (d : ((leb y.value 2100000000000000 ≡ true) × (y.value ≤ 2100000000000000)) ⊎ ((leb y.value 2100000000000000 ≡ false) × (2100000000000000 < y.value))) (c : Coin) → coin_by y.value d y.lock h b ≡ Some c → c.value ≡ y.value
+  coin_value y b (inl p) c e = let z : record { value = y.value; lock = y.lock; height = h; coinbase = b; money = p.1 } ≡ c = cc in ap (λ x. x.value) (sym z)
+  coin_value y b (inr p) c e = let z : ◌≡◌ {A = ℕ} 0 1 = cc in absurd (omega arith)
 
   make_value : (id : List ℕ) (i : ℕ) (w : Option Coin) (m n : Coins) → Sorted outpoints m → make room h id i w m ≡ Ok n → (c : Coin) × (w ≡ Some c) × (value_in n ≡ c.value + value_in m) × Sorted outpoints n
   make_value id i None m n o e = no_err _ n e
@@ -109,7 +108,7 @@ module _ (room h : ℕ) where
           (omega (arith, v, ih.0, ap value_in z), ih.1)
       go rest false t j p r =
           let w = make_value id i (coin_of y h b) m j o p in
-          let c : w.0.value ≡ y.value = coin_value y b (leb y.value 2100000000000000) (leb→le y.value 2100000000000000) w.0 w.1 in
+          let c : w.0.value ≡ y.value = coin_value y b (leb_tells y.value 2100000000000000) w.0 w.1 in
           let ih = rest j w.3 r in
           let v : value_burned (y ∷ ys) ≡ value_burned ys = ap (λ x. cond x (y.value + value_burned ys) (value_burned ys)) t in
           (omega (arith, v, ih.0, w.2, c), ih.1)

@@ -2,11 +2,12 @@
 --     checks      what is tested before a coin is touched
 --     needs       the undo entries that a block needs
 --     effect      the transactions applied in order, and the coinbase's claim
-use Rattle.std.specs.Prelude.{ℕ, ◌+◌, ◌-◌, ◌≤◌, Bool, true, false, cond, not, ◌&&◌, T, List, [], ◌∷◌, length, Some, None, Ok, Err, Option, Result, ◌==◌, nat_le, nat_lt}
+use Rattle.std.specs.Prelude.{◌≡◌, ℕ, ◌+◌, ◌-◌, ◌<◌, ◌≤◌, Bool, true, false, cond, not, ◌&&◌, ◌⊎◌, List, [], ◌∷◌, length, Some, None, Ok, Err, Option, Result, ◌==◌, nat_le, nat_lt}
 use Rattle.std.specs.declared.cmp.Ordering.TheVariants.{Less, Equal, Greater}
 use Rattle.std.specs.declared.cmp.Ordering.{Ordering}
-use Rattle.std.proofs.Common.{leb→le}
+use Rattle.std.proofs.Common.{inl, inr}
 use Rattle.std.specs.Cmp.Lexicographic.{slice_cmp}
+use Rattle.std.proofs.lemmas.Bool.Decides.{leb_tells}
 use Rattle.coins.specs.declared.coin.Coin.{Coin}
 use Rattle.coins.specs.declared.coin.Lock.{Lock}
 use Rattle.coins.specs.declared.outpoint.Outpoint.{Outpoint}
@@ -146,14 +147,13 @@ needs b = 1 + transactions_needs b.transactions
 
 -- ---- the effect
 
--- the coin of an output, by whether its value is at most the greatest value
-abbrev pub coin_by : (y : OutputValue) → ℕ → Bool → (t : Bool) → (T t → y.value ≤ 2100000000000000) → Option Coin
-coin_by y h b true within = Some (record { value = y.value; lock = y.lock; height = h; coinbase = b; money = within tt })
-coin_by y h b false within = None
+-- a coin of a value that may not be too large
+abbrev pub coin_by : (v : ℕ) → ((nat_le v 2100000000000000 ≡ true) × (v ≤ 2100000000000000)) ⊎ ((nat_le v 2100000000000000 ≡ false) × (2100000000000000 < v)) → Lock → ℕ → Bool → Option Coin
+coin_by v (inl p) l h b = Some (record { value = v; lock = l; height = h; coinbase = b; money = p.1 })
+coin_by v (inr p) l h b = None
 
--- the coin of an output at height h; an output of more than the greatest value has none
 abbrev pub coin_of : OutputValue → ℕ → Bool → Option Coin
-coin_of y h b = coin_by y h b (nat_le y.value 2100000000000000) (leb→le y.value 2100000000000000)
+coin_of y h b = coin_by y.value (leb_tells y.value 2100000000000000) y.lock h b
 
 -- coins, and what was paid by inputs
 abbrev pub Paid : Type 0

@@ -31,31 +31,29 @@ chain_long t [] (suc n) es u = absurd u
 chain_long t (b ∷ bs) (suc n) es u = u.2 ∙ ap (λ k. needs b + k) (chain_long t bs n u.0 u.3)
 
 -- where a block is kept, its mark is found
-unwinds_found : {X : Type 0} (t : Terms) (bs : List BlockValue) (n : ℕ) (es : List Record) → Unwinds t bs n es → (n ≡ 0 → ⊥) → (back t.setting.room es (replay t bs) true).previous ≡ None → X
+unwinds_found : {X : Type 0} (t : Terms) (bs : List BlockValue) (n : ℕ) (es : List Record) → Unwinds t bs n es → (n ≡ 0 → ⊥) → back t.setting.room es (replay t bs) true ≡ None → X
 unwinds_found t bs zero es u h e = absurd (h refl)
 unwinds_found t [] (suc n) es u h e = absurd u
-unwinds_found t (b ∷ bs) (suc n) es u h e = let a = ap (λ x. x.previous) u.1 in absurd (let z : ◌≡◌ {A = ℕ} 0 1 = cc in omega arith)
+unwinds_found t (b ∷ bs) (suc n) es u h e = let a = sym u.1 ∙ e in absurd (let z : ◌≡◌ {A = ℕ} 0 1 = cc in omega arith)
 
 -- ---- the entries of the newest blocks
 
-none_newest : (n : ℕ) → newest n [] ≡ []
-none_newest zero = refl
-none_newest (suc n) = refl
+below_newest : (room n : ℕ) (es : List Record) (m : Coins) (b : Bool) (r : Back) → back room es m b ≡ Some r → back room (newest (suc n) es) m b ≡ Some (record { previous = r.previous; below = newest n r.below; coins = r.coins; clean = r.clean })
+below_newest room n [] m b r h = absurd (let z : ◌≡◌ {A = ℕ} 0 1 = cc in omega arith)
+below_newest room n (Mark p ∷ es) m b r h =
+    let e : record { previous = p; below = es; coins = m; clean = b } ≡ r = cc in
+    ap (λ x. Some (record { previous = x.previous; below = newest n x.below; coins = x.coins; clean = x.clean })) e
+below_newest room n (Made k c ∷ es) m b r h = below_newest room n es (undone room (Made k c) m) (found room (Made k c) m && b) r h
+below_newest room n (Spent k c ∷ es) m b r h = below_newest room n es (undone room (Spent k c) m) (found room (Spent k c) m && b) r h
 
-abbrev with_newest : ℕ → Back → Back
-with_newest n r = record { previous = r.previous; below = newest n r.below; coins = r.coins; clean = r.clean }
-
-below_newest : (room n : ℕ) (es : List Record) (m : Coins) (b : Bool) → back room (newest (suc n) es) m b ≡ with_newest n (back room es m b)
-below_newest room n [] m b = ap (λ x. record { previous = None; below = x; coins = m; clean = b }) (sym (none_newest n))
-below_newest room n (Mark p ∷ es) m b = refl
-below_newest room n (Made k c ∷ es) m b = below_newest room n es (undone room (Made k c) m) (found room (Made k c) m && b)
-below_newest room n (Spent k c ∷ es) m b = below_newest room n es (undone room (Spent k c) m) (found room (Spent k c) m && b)
-
-long_newest : (room n : ℕ) (es : List Record) (m : Coins) (b : Bool) → length (newest (suc n) es) + length (back room es m b).below ≡ length es + length (newest n (back room es m b).below)
-long_newest room n [] m b = omega (arith, ap length (none_newest n))
-long_newest room n (Mark p ∷ es) m b = omega arith
-long_newest room n (Made k c ∷ es) m b = omega (arith, long_newest room n es (undone room (Made k c) m) (found room (Made k c) m && b))
-long_newest room n (Spent k c ∷ es) m b = omega (arith, long_newest room n es (undone room (Spent k c) m) (found room (Spent k c) m && b))
+long_newest : (room n : ℕ) (es : List Record) (m : Coins) (b : Bool) (r : Back) → back room es m b ≡ Some r → length (newest (suc n) es) + length r.below ≡ length es + length (newest n r.below)
+long_newest room n [] m b r h = absurd (let z : ◌≡◌ {A = ℕ} 0 1 = cc in omega arith)
+long_newest room n (Mark p ∷ es) m b r h =
+    let e : record { previous = p; below = es; coins = m; clean = b } ≡ r = cc in
+    let f : es ≡ r.below = ap (λ x. x.below) e in
+    omega (arith, ap length f, ap (λ x. length (newest n x)) f)
+long_newest room n (Made k c ∷ es) m b r h = omega (arith, long_newest room n es (undone room (Made k c) m) (found room (Made k c) m && b) r h)
+long_newest room n (Spent k c ∷ es) m b r h = omega (arith, long_newest room n es (undone room (Spent k c) m) (found room (Spent k c) m && b) r h)
 
 pub unwinds_newest : (t : Terms) (bs : List BlockValue) (k n : ℕ) (es : List Record) → n ≤ k → Unwinds t bs k es → Unwinds t bs n (newest n es)
 unwinds_newest t bs k zero es h u = refl
@@ -63,8 +61,8 @@ unwinds_newest t bs zero (suc n) es h u = absurd (omega arith)
 unwinds_newest t [] (suc k) (suc n) es h u = absurd u
 unwinds_newest t (b ∷ bs) (suc k) (suc n) es h u =
     let room = t.setting.room in
-    let a = below_newest room n es (replay t (b ∷ bs)) true ∙ ap (with_newest n) u.1 in
-    let l = subst (λ r. length (newest (suc n) es) + length r.below ≡ length es + length (newest n r.below)) u.1 (long_newest room n es (replay t (b ∷ bs)) true) in
+    let a = below_newest room n es (replay t (b ∷ bs)) true _ u.1 in
+    let l = long_newest room n es (replay t (b ∷ bs)) true _ u.1 in
     (newest n u.0, a, omega (arith, l, u.2), unwinds_newest t bs k n u.0 (omega arith) u.3)
 
 -- ---- the value of the coins
@@ -103,8 +101,8 @@ module _ {V C : Type 0} (v : ViewGhosts V) (c : ConditionGhosts C) where
   }
 
   -- a ledger that keeps a block finds its mark
-  pub mark_found : {X : Type 0} (k : Book) (a : Ledger V C) → Stands v c k a → (a.kept ≡ 0 → ⊥) → (back (v.most a.view) (entries a.chain) (v.coins a.view) true).previous ≡ None → X
-  mark_found k a s h e = unwinds_found k.terms k.blocks k.kept (entries a.chain) s.chain (λ z. h (s.kept ∙ z)) (ap (λ n. (back n (entries a.chain) (coins_of k) true).previous) (sym s.room) ∙ ap (λ m. (back (v.most a.view) (entries a.chain) m true).previous) (sym s.coins) ∙ e)
+  pub mark_found : {X : Type 0} (k : Book) (a : Ledger V C) → Stands v c k a → (a.kept ≡ 0 → ⊥) → back (v.most a.view) (entries a.chain) (v.coins a.view) true ≡ None → X
+  mark_found k a s h e = unwinds_found k.terms k.blocks k.kept (entries a.chain) s.chain (λ z. h (s.kept ∙ z)) (ap (λ n. back n (entries a.chain) (coins_of k) true) (sym s.room) ∙ ap (λ m. back (v.most a.view) (entries a.chain) m true) (sym s.coins) ∙ e)
 
   -- fewer blocks are kept
   pub settle_law : (k : Book) (a z : Ledger V C) (n : ℕ) → Stands v c k a → n < a.kept → z.started ≡ a.started → z.view ≡ a.view → z.condition ≡ a.condition → z.terms ≡ a.terms → z.tip ≡ a.tip → z.kept ≡ n → entries z.chain ≡ newest n (entries a.chain) → Stands v c (settled k n) z × (◌≡◌ {A = Result ℕ LedgerFault} (Ok n) (Ok (min n k.kept)))

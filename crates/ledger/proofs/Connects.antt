@@ -107,7 +107,7 @@ module _ {V C : Type 0} (v : ViewGhosts V) (c : ConditionGhosts C) (k : Book) (a
 
   pub accepted_law : (z : Ledger V C) (bytes : List ℕ) (b : BlockValue) (m : Coins) (sums : Sums) → connect_bytes k bytes ≡ Ok (b, sums) → accept k.terms k.blocks b (coins_of k) ≡ Ok (m, sums) → b.previous ≡ a.tip.id
       → z.started ≡ a.started → v.most z.view ≡ v.most a.view → z.condition ≡ a.condition → z.terms ≡ a.terms → v.coins z.view ≡ m → z.tip.id ≡ b.id → z.tip.height ≡ a.tip.height + 1 → z.kept ≡ a.kept + 1
-      → back (v.most a.view) (entries z.chain) (v.coins z.view) true ≡ record { previous = Some b.previous; below = entries a.chain; coins = v.coins a.view; clean = true } → length (entries z.chain) ≡ needs b + length (entries a.chain)
+      → back (v.most a.view) (entries z.chain) (v.coins z.view) true ≡ Some (record { previous = b.previous; below = entries a.chain; coins = v.coins a.view; clean = true }) → length (entries z.chain) ≡ needs b + length (entries a.chain)
       → Stands v c (connected k bytes) z × (◌≡◌ {A = Result Connected BlockFault} (Ok (record { height = a.tip.height + 1; made = sums.made; spent = sums.spent; fees = sums.fees; burned = sums.burned })) (told k (connect_bytes k bytes)))
   accepted_law z bytes b m sums h acc pr zs zr zc zt zm zi zh zk zb zl =
       let coins : v.coins z.view ≡ replay k.terms (b ∷ k.blocks) = zm ∙ sym (ap (λ x. coins_after x (coins_of k)) acc) in
@@ -128,8 +128,8 @@ module _ {V C : Type 0} (v : ViewGhosts V) (c : ConditionGhosts C) (k : Book) (a
           ap (λ x. back k.terms.setting.room (entries z.chain) x true) (sym coins)
               ∙ ap (λ x. back x (entries z.chain) (v.coins z.view) true) (sym s.room)
               ∙ zb
-              ∙ ap (λ x. record { previous = Some x; below = entries a.chain; coins = v.coins a.view; clean = true }) (pr ∙ s.tip)
-              ∙ ap (λ x. record { previous = Some (tip_id k.terms k.blocks); below = entries a.chain; coins = x; clean = true }) s.coins,
+              ∙ ap (λ x. Some (record { previous = x; below = entries a.chain; coins = v.coins a.view; clean = true })) (pr ∙ s.tip)
+              ∙ ap (λ x. Some (record { previous = tip_id k.terms k.blocks; below = entries a.chain; coins = x; clean = true })) s.coins,
           zl,
           s.chain,
         );

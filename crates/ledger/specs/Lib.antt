@@ -2,7 +2,9 @@ pub mod Answers
 pub mod Book
 pub mod Examples
 pub mod Laws
+pub mod PageLaws
 pub mod Pages
 pub mod Refusals
+pub mod Runs
 pub mod Standing
 pub mod Starting

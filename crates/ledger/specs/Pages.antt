@@ -1,7 +1,7 @@
 -- The page that a ledger is on: what it answers by. Before the start this is what it was made over, after the start the book.
 --     page_after, answer_on       one call
 --     pages_after, answers_on     a list of calls
-use Rattle.std.specs.Prelude.{◌≡◌, ℕ, min, Bool, true, false, List, [], ◌∷◌, length, take, drop, Ok, Err, Result}
+use Rattle.std.specs.Prelude.{◌≡◌, ℕ, min, Bool, true, false, List, [], ◌∷◌, length, Ok, Err, Result}
 use Rattle.coins.specs.declared.coin.Lock.{Lock}
 use Rattle.coinsview.specs.Meaning.{Coins, coin_at, next_in}
 use Rattle.coinsview.specs.declared.view.CoinsView.{Ghosts as ViewGhosts}
@@ -15,6 +15,7 @@ use Rattle.ledger.specs.declared.runs.Answer.{Answer}
 use Rattle.ledger.specs.declared.runs.Answer.TheVariants as answer
 use Rattle.ledger.specs.Book.{Terms, Book, fresh, connected, connect_answer, disconnected, disconnect_answer, settled, tip_of, coins_of, held_by}
 use Rattle.ledger.specs.Starting.{in_range, start_answer, start_terms}
+use Rattle.ledger.specs.Runs.{part}
 use Rattle.ledger.specs.Standing.{Stands}
 
 -- when a witness opens a lock at a height
@@ -61,10 +62,6 @@ begun_by (Err f) p t = p
 abbrev pub begun : Page → ℕ → ℕ → ℕ → List ℕ → Page
 begun (unstarted n o m) h a l id = begun_by (start_answer false (in_range h a l) (length m)) (unstarted n o m) (start_terms n o h a l id)
 begun (standing k) h a l id = standing k
-
--- the bytes from one place to another, as far as there are any
-abbrev pub part : ℕ → ℕ → List ℕ → List ℕ
-part from to bytes = drop from (take to bytes)
 
 -- the page after a call that is given some bytes
 abbrev pub page_after : List ℕ → Call → Page → Page

@@ -20,7 +20,7 @@ abbrev pub Unwinds : Terms → List BlockValue → ℕ → List Record → Type 
 Unwinds t bs zero es = es ≡ []
 Unwinds t [] (suc n) es = ⊥
 Unwinds t (b ∷ bs) (suc n) es =
-    (below : List Record) × (back t.setting.room es (replay t (b ∷ bs)) true ≡ record { previous = Some (tip_id t bs); below = below; coins = replay t bs; clean = true }) × (length es ≡ needs b + length below) × Unwinds t bs n below
+    (below : List Record) × (back t.setting.room es (replay t (b ∷ bs)) true ≡ Some (record { previous = tip_id t bs; below = below; coins = replay t bs; clean = true })) × (length es ≡ needs b + length below) × Unwinds t bs n below
 
 pub record Stands {V C : Type 0} (v : ViewGhosts V) (c : ConditionGhosts C) (k : Book) (l : Ledger V C) : Type 0 where
   pub started : l.started ≡ true

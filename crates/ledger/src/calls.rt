@@ -272,7 +272,7 @@ fn apply<V: CoinsView, C: SpendCondition>(
     ensures well { V.CoinsView.ok view.new }
     ensures fixed { V.CoinsView.most view.new ≡ V.CoinsView.most view.old }
     ensures value { MatchResult result (λ a. effect (setting (V.CoinsView.most view.old) (C.SpendCondition.opens condition.now) site) site.height (block_of block.now).transactions (V.CoinsView.coins view.old) ≡ Ok (V.CoinsView.coins view.new, a)) (λ f. (effect (setting (V.CoinsView.most view.old) (C.SpendCondition.opens condition.now) site) site.height (block_of block.now).transactions (V.CoinsView.coins view.old) ≡ Err f) × (V.CoinsView.coins view.new ≡ V.CoinsView.coins view.old) × (entries chain.new ≡ entries chain.old)) }
-    ensures kept { OnOk result ((back (V.CoinsView.most view.old) (entries chain.new) (V.CoinsView.coins view.new) true ≡ record { previous = Some (block_of block.now).previous; below = entries chain.old; coins = V.CoinsView.coins view.old; clean = true }) × (length (entries chain.new) ≡ needsOf (block_of block.now) + length (entries chain.old))) }
+    ensures kept { OnOk result ((back (V.CoinsView.most view.old) (entries chain.new) (V.CoinsView.coins view.new) true ≡ Some (record { previous = (block_of block.now).previous; below = entries chain.old; coins = V.CoinsView.coins view.old; clean = true })) × (length (entries chain.new) ≡ needsOf (block_of block.now) + length (entries chain.old))) }
 {
     let previous = *block.previous();
     // The room for the mark was tested.

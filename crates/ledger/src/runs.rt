@@ -1,7 +1,11 @@
 // Any list of calls on a ledger.
 ghost use Rattle.std.specs.Prelude.{◌≡◌, min, true, List, [], ◌∷◌, ◌++◌, length, take};
-ghost use Rattle.ledger.specs.Laws.{Laws, Performed};
-ghost use Rattle.ledger.specs.Pages.{Page, At, part as part_of};
+ghost use Rattle.ledger.specs.Book.{Book};
+ghost use Rattle.ledger.specs.Laws.{Laws};
+ghost use Rattle.ledger.specs.PageLaws.{PageLaws, Performed};
+ghost use Rattle.ledger.specs.Pages.{Page, At};
+ghost use Rattle.ledger.specs.Runs.{book_after, answer_of, part as part_of};
+ghost use Rattle.ledger.specs.Standing.{Stands, Follows};
 ghost use Rattle.ledger.specs.declared.runs.Answer.{Answer as Said};
 ghost use Rattle.ledger.specs.declared.runs.Call.{Call as Asked};
 ghost use Rattle.ledger.specs.declared.runs.Call.TheVariants.{Flush as FlushCall};
@@ -64,7 +68,7 @@ impl<V: CoinsView, C: SpendCondition> Ledger<V, C> {
         requires { V.CoinsView.ok self.old.view }
         ensures ok { V.CoinsView.ok self.new.view }
         ensures performed { Performed V.CoinsView C.SpendCondition bytes.now call result self.old self.new }
-        ensures bottom { call ≡ FlushCall → self.new.started ≡ true → V.CoinsView.bottom self.new.view ≡ V.CoinsView.coins self.new.view }
+        ensures bottom { call ≡ FlushCall → self.old.started ≡ true → V.CoinsView.bottom self.new.view ≡ V.CoinsView.coins self.new.view }
     {
         match call {
             Call::Start {
@@ -88,8 +92,10 @@ impl<V: CoinsView, C: SpendCondition> Ledger<V, C> {
     pub fn perform(&mut self, bytes: &[u8], call: Call) -> Answer
         requires { V.CoinsView.ok self.old.view }
         ensures ok { V.CoinsView.ok self.new.view }
+        ensures law { Follows V.CoinsView C.SpendCondition self.old self.new result (book_after bytes.now call) (answer_of bytes.now call) }
+        ensures bottom { call ≡ FlushCall → self.old.started ≡ true → V.CoinsView.bottom self.new.view ≡ V.CoinsView.coins self.new.view }
         ensures performed { Performed V.CoinsView C.SpendCondition bytes.now call result self.old self.new }
-        ensures laws { (p : Page) (cs : List Asked) (said : List Said) → Laws V.CoinsView C.SpendCondition p bytes.now cs said self.old → Laws V.CoinsView C.SpendCondition p bytes.now (cs ++ (call ∷ [])) (said ++ (result ∷ [])) self.new }
+        ensures page_laws { (p : Page) (cs : List Asked) (said : List Said) → PageLaws V.CoinsView C.SpendCondition p bytes.now cs said self.old → PageLaws V.CoinsView C.SpendCondition p bytes.now (cs ++ (call ∷ [])) (said ++ (result ∷ [])) self.new }
     {
         self.make(bytes, call)
     }
@@ -99,7 +105,8 @@ impl<V: CoinsView, C: SpendCondition> Ledger<V, C> {
         requires { V.CoinsView.ok self.old.view }
         ensures ok { V.CoinsView.ok self.new.view }
         ensures count { result ≡ min (length calls.now) (length answers.old) }
-        ensures laws { (p : Page) → At V.CoinsView C.SpendCondition p self.old → Laws V.CoinsView C.SpendCondition p bytes.now (take result calls.now) (take result answers.new) self.new }
+        ensures laws { (k : Book) → Stands V.CoinsView C.SpendCondition k self.old → Laws V.CoinsView C.SpendCondition k bytes.now (take result calls.now) (take result answers.new) self.new }
+        ensures page_laws { (p : Page) → At V.CoinsView C.SpendCondition p self.old → PageLaws V.CoinsView C.SpendCondition p bytes.now (take result calls.now) (take result answers.new) self.new }
     {
         let mut done = 0;
         while done < calls.len() && done < answers.len() {

@@ -1,5 +1,6 @@
 -- One coin taken or put, and noted: what the rules say of it, and that the way back leads to where it led. Assumes nothing.
-use Rattle.std.proofs.Common.{◌≡◌, ℕ, ◌+◌, ◌<◌, ◌≤◌, Bool, true, false, cond, T, ltb, leb, List, [], ◌∷◌, length, is_ok, Some, None, Ok, Err, Option, Result, sym, refl, ap, ◌∙◌, subst, arith, leb→le, lt-ltb, eq-eqb, le-leb, MatchResult}
+use Rattle.std.proofs.Common.{◌≡◌, ℕ, ◌+◌, ◌<◌, ◌≤◌, Bool, true, false, cond, ltb, leb, ◌⊎◌, List, [], ◌∷◌, length, is_ok, Some, None, Ok, Err, Option, Result, sym, refl, ap, ◌∙◌, subst, inl, inr, arith, lt-ltb, eq-eqb, MatchResult}
+use Rattle.std.proofs.lemmas.Bool.Decides.{leb_tells}
 use Rattle.std.proofs.lemmas.Bool.{ne_eqb}
 use Rattle.coins.specs.declared.coin.Coin.{Coin}
 use Rattle.coins.specs.declared.coin.Lock.{Lock}
@@ -69,11 +70,11 @@ module _ (opens : Lock → List ℕ → ℕ → Bool) (maturity h i : ℕ) (k : 
 
 -- the coin that an output makes, by its parts
 pub coin_is : (y : OutputValue) (h : ℕ) (b : Bool) (c : Coin) → c.value ≡ y.value → c.lock ≡ y.lock → c.height ≡ h → c.coinbase ≡ b → coin_of y h b ≡ Some c
-coin_is y h b c value lock height coinbase = go (leb y.value 2100000000000000) (leb→le y.value 2100000000000000) (le-leb _ _ (omega (arith, c.money, value)))
+coin_is y h b c value lock height coinbase = go (leb_tells y.value 2100000000000000)
   where
-    go : (t : Bool) (within : T t → y.value ≤ 2100000000000000) → t ≡ true → coin_by y h b t within ≡ Some c
-    go true within e = ap Some (coin_parts _ c (sym value) (sym lock) (sym height) (sym coinbase))
-    go false within e = absurd (let z : ◌≡◌ {A = ℕ} 0 1 = cc in omega arith)
+    go : (t : ((leb y.value 2100000000000000 ≡ true) × (y.value ≤ 2100000000000000)) ⊎ ((leb y.value 2100000000000000 ≡ false) × (2100000000000000 < y.value))) → coin_by y.value t y.lock h b ≡ Some c
+    go (inl p) = ap Some (coin_parts _ c (sym value) (sym lock) (sym height) (sym coinbase))
+    go (inr p) = absurd (omega (arith, p.1, c.money, value))
 
 -- a coin that is put, and noted
 pub output_made : (room h : ℕ) (k : Outpoint) (y : OutputValue) (b : Bool) (c : Coin) (m n : Coins) (es fs : List Record) (r : Result Unit InputFault) (o : Result Unit TransactionFault) (u : Unit) → coin_of y h b ≡ Some c → r ≡ of_view (put_answer room k m) → n ≡ cond (is_ok r) (with_coin k c m) m → Placed k.index r o → o ≡ Ok u → fs ≡ pushed (Made k c) es → length es < 512 → (make room h k.id k.index (coin_of y h b) m ≡ Ok n) × (back room fs n true ≡ back room es m true) × (length fs ≡ length es + 1)

@@ -6,9 +6,9 @@ use Rattle.coinsview.specs.Meaning.{Coins, coin_at, without, put_answer, put_map
 use Rattle.undo.specs.declared.Record.{Record}
 use Rattle.undo.specs.declared.Record.TheVariants.{Mark, Made, Spent}
 
--- where the way back ends: the identifier in the mark, or none where no mark was met, the entries below it, the coins then, and whether each entry found them as the block had left them
+-- the identifier in the mark, the entries below it, the coins then, and whether each entry found them as the block had left them
 pub record Back : Type 0 where
-  pub previous : Option (List ℕ)
+  pub previous : List ℕ
   pub below : List Record
   pub coins : Coins
   pub clean : Bool
@@ -30,9 +30,9 @@ module _ (room : ℕ) where
   found (Made k c) m = own c (coin_at k m)
   found (Spent k c) m = is_ok (put_answer room k m)
 
-  -- the entries down to the first mark, or all where there is none, taken back in that order; b is whether those before went clean
-  abbrev pub back : List Record → Coins → Bool → Back
-  back [] m b = record { previous = None; below = []; coins = m; clean = b }
-  back (Mark p ∷ es) m b = record { previous = Some p; below = es; coins = m; clean = b }
+  -- the entries down to the first mark, taken back in that order; b is whether those before went clean
+  abbrev pub back : List Record → Coins → Bool → Option Back
+  back [] m b = None
+  back (Mark p ∷ es) m b = Some (record { previous = p; below = es; coins = m; clean = b })
   back (Made k c ∷ es) m b = back es (undone (Made k c) m) (found (Made k c) m && b)
   back (Spent k c ∷ es) m b = back es (undone (Spent k c) m) (found (Spent k c) m && b)

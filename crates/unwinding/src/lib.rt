@@ -1,7 +1,7 @@
 // The way back from a block, by its undo entries.
 #![tactic(auto)]
 
-ghost use Rattle.std.specs.Prelude.{◌≡◌, true, Some, None, MatchOption};
+ghost use Rattle.std.specs.Prelude.{◌≡◌, true, [], Some, None, MatchOption};
 ghost use Rattle.undo.specs.Entries.{entries};
 ghost use Rattle.unwinding.specs.Undoing.{undone, found, back};
 
@@ -33,12 +33,12 @@ fn take_back<V: CoinsView>(view: &mut V, record: &Record) -> bool
     }
 }
 
-// Works from the newest entry to the first mark, and frees them. None where there is no mark, when all entries are taken back.
+// Works from the newest entry to the first mark, and frees them. None where there is no mark.
 pub fn unwind<V: CoinsView>(view: &mut V, chain: &mut Undo) -> Option<Unwound>
     requires { V.CoinsView.ok view.old }
     ensures well { V.CoinsView.ok view.new }
     ensures fixed { V.CoinsView.most view.new ≡ V.CoinsView.most view.old }
-    ensures value { MatchOption result (((back (V.CoinsView.most view.old) (entries chain.old) (V.CoinsView.coins view.old) true).previous ≡ None) × (entries chain.new ≡ (back (V.CoinsView.most view.old) (entries chain.old) (V.CoinsView.coins view.old) true).below) × (V.CoinsView.coins view.new ≡ (back (V.CoinsView.most view.old) (entries chain.old) (V.CoinsView.coins view.old) true).coins)) (λ u. back (V.CoinsView.most view.old) (entries chain.old) (V.CoinsView.coins view.old) true ≡ record { previous = Some u.previous; below = entries chain.new; coins = V.CoinsView.coins view.new; clean = u.clean }) }
+    ensures value { MatchOption result ((back (V.CoinsView.most view.old) (entries chain.old) (V.CoinsView.coins view.old) true ≡ None) × (entries chain.new ≡ [])) (λ u. back (V.CoinsView.most view.old) (entries chain.old) (V.CoinsView.coins view.old) true ≡ Some (record { previous = u.previous; below = entries chain.new; coins = V.CoinsView.coins view.new; clean = u.clean })) }
 {
     let mut clean = true;
     while let Some(record) = chain.pop() {

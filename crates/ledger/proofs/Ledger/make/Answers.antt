@@ -5,8 +5,8 @@ use Rattle.ledger.specs.declared.runs.Call.{Call}
 use Rattle.ledger.specs.declared.runs.Call.TheVariants as call
 use Rattle.ledger.specs.declared.runs.Answer.TheVariants as answer
 use Rattle.ledger.specs.Book.{connected, connect_answer, disconnected, disconnect_answer, settled, tip_of, coins_of, held_by}
-use Rattle.ledger.specs.Laws.{Performed}
-use Rattle.ledger.specs.Pages.{part}
+use Rattle.ledger.specs.PageLaws.{Performed}
+use Rattle.ledger.specs.Runs.{part}
 use Rattle.ledger.specs.Standing.{Stands}
 use Rattle.ledger.proofs.Books.{clash}
 use Rattle.ledger.proofs.Performing.{unchanged, on_page, on_same_page, kept_on_page, start_on_page, tip_on_page}
@@ -99,7 +99,7 @@ returns-in-Flush g c =
         kind = (r, refl);
         same = λ p s h. e.same;
       });
-      bottom = λ h t. e.bottom (sym e.same.started ∙ t);
+      bottom = λ h t. e.bottom t;
     }
 
 pub returns-in-Tip : goal.returns-in-Tip

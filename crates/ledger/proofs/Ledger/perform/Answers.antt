@@ -1,11 +1,15 @@
-use Rattle.ledger.proofs.Running.{laws_more}
+use Rattle.ledger.proofs.PageRunning.{follows_book, laws_more}
 use Rattle.ledger.proofs.Ledger.perform.Goals as goal
 
 pub returns : goal.returns
 returns g c =
     let e = c.make.ensures in
+    let v = g.V.CoinsView in
+    let o = g.C.SpendCondition in
     record {
       ok = e.ok;
+      law = follows_book v o c.args.bytes.now c.args.call c.make.result c.args.self.now c.make.new.self e.performed.law;
+      bottom = e.bottom;
       performed = e.performed;
-      laws = λ p cs said h. laws_more g.V.CoinsView g.C.SpendCondition p c.args.bytes.now cs said c.args.call c.make.result c.args.self.now c.make.new.self e.performed.law e.bottom h;
+      page_laws = λ p cs said h. laws_more v o p c.args.bytes.now cs said c.args.call c.make.result c.args.self.now c.make.new.self e.performed.law e.bottom h;
     }
