@@ -1,10 +1,9 @@
 -- A block file: records of a 4-byte length and a block.
 use Rattle.std.specs.Prelude.{ℕ, ◌+◌, cond, List, length, take, drop, Ok, Err, Result, nat_le, nat_lt}
 use Rattle.compact.specs.Compact.{four_at}
-use Rattle.blockbytes.specs.declared.fault.FormFault.{FormFault}
 use Rattle.blockbytes.specs.declared.fault.FormFault.TheVariants as form
 use Rattle.blockfile.specs.declared.fault.FileFault.{FileFault}
-use Rattle.blockfile.specs.declared.fault.FileFault.TheVariants.{OverSize, Cut, Ended}
+use Rattle.blockfile.specs.declared.fault.FileFault.TheVariants.{Cut, Ended}
 use Rattle.blockfile.specs.declared.fault.PeekFault.{PeekFault}
 use Rattle.blockfile.specs.declared.fault.PeekFault.TheVariants as peek
 use Rattle.blockbytes.specs.Places.{id_at}

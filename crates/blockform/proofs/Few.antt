@@ -1,5 +1,5 @@
 -- A reader never has more than 64 to hand out. Assumes nothing.
-use Rattle.std.proofs.Common.{◌≡◌, ℕ, zero, suc, ◌≤◌, List, length, sym, refl, ap, subst}
+use Rattle.std.proofs.Common.{◌≡◌, ℕ, zero, suc, ◌≤◌, length, sym, refl, ap, subst}
 use Rattle.blockform.specs.declared.reader.Items.{Items}
 use Rattle.blockform.specs.declared.reader.Transactions.{Transactions}
 use Rattle.blockbytes.specs.Places.{list_at}

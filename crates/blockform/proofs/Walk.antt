@@ -1,10 +1,10 @@
 -- What the next of a reader's transactions is.
-use Rattle.std.proofs.Common.{◌≡◌, ℕ, ◌+◌, ◌-◌, ◌*◌, ◌<◌, ◌≤◌, true, false, List, [], ◌∷◌, map, length, get_or, drop, sym, refl, ap, ◌∙◌, arith, length-append, length-drop, length-take-le}
+use Rattle.std.proofs.Common.{◌≡◌, ℕ, ◌+◌, ◌≤◌, List, length, get_or, drop, ap, arith, length-append, length-drop, length-take-le}
 use Rattle.compact.specs.Compact.{encode}
 use Rattle.compact.proofs.Parts.{encode_1}
 use Rattle.blockbytes.specs.Form.{input, output}
-use Rattle.blockbytes.specs.Value.{encode_all, encode_list, encode_input, encode_output, encode_transaction}
-use Rattle.blockbytes.specs.Places.{list_at, id_at, input_at, input_end, output_at, output_end, inputs_end, transaction_at, transaction_end}
+use Rattle.blockbytes.specs.Value.{encode_all, encode_input, encode_output, encode_transaction}
+use Rattle.blockbytes.specs.Places.{input_at, input_end, output_at, output_end, inputs_end, transaction_at, transaction_end}
 use Rattle.blockform.specs.declared.reader.Transactions.{Transactions}
 use Rattle.blockform.specs.Readers.{TransactionsGood}
 use Rattle.blockbytes.proofs.Steps.{Found, found, input_ends, output_ends, length_list}

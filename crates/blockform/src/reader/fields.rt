@@ -1,7 +1,7 @@
 // The fields of well-formed bytes, read at a place.
 ghost use Rattle.std.specs.Prelude.{◌≡◌, ◌+◌, ◌≤◌, true, length, is_ok};
 ghost use Rattle.compact.specs.Compact.{four_at, eight_at};
-ghost use Rattle.blockbytes.specs.Form.{times, input as inputForm, item as itemForm};
+ghost use Rattle.blockbytes.specs.Form.{times, input as input_form, item as item_form};
 ghost use Rattle.blockbytes.specs.Value.{spends, makes, encode_piece, PieceWithin};
 ghost use Rattle.blockbytes.specs.Places.{id_at, input_at, input_end, output_at, item_at, item_end, end_of};
 ghost use Rattle.blockform.specs.Readers.{piece_of, offset_of};
@@ -83,7 +83,7 @@ fn output(b: &[u8], at: usize) -> (Item<'_>, usize)
 
 // The input or output at `at`, and where it ends.
 pub fn item(b: &[u8], at: usize, inputs: bool) -> (Item<'_>, usize)
-    requires { is_ok (itemForm inputs b.now at) ≡ true }
+    requires { is_ok (item_form inputs b.now at) ≡ true }
     ensures piece { piece_of result.0 ≡ item_at inputs b.now at }
     ensures offset { offset_of result.0 ≡ at }
     ensures end { result.1 ≡ item_end inputs b.now at }
@@ -95,7 +95,7 @@ pub fn item(b: &[u8], at: usize, inputs: bool) -> (Item<'_>, usize)
 
 // Where `n` inputs end that begin at `at`.
 pub fn past_inputs(b: &[u8], at: usize, n: usize) -> usize
-    requires { is_ok (times n (inputForm b.now) at) ≡ true }
+    requires { is_ok (times n (input_form b.now) at) ≡ true }
     ensures { result ≡ end_of n (input_end b.now) at }
 {
     let mut at = at;

@@ -9,5 +9,5 @@ returns c =
     let at = c.args.place.now in
     let e = drop-drop 4 at file in
     let l = length-drop at file in
-    let t = rest_is 4 c.split-at.result.1.now in
+    let t = rest_is 4 c.split_at.result.1.now in
     search rules

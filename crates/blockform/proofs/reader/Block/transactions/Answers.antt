@@ -1,6 +1,6 @@
-use Rattle.std.proofs.Common.{refl, arith}
+use Rattle.std.proofs.Common.{refl}
 use Rattle.blockform.specs.Readers.{block_of, transactions_of, next_transaction, BlockGood, TransactionsGood}
-use Rattle.blockbytes.proofs.Steps.{ok_of, is_ok, block_ok, BlockOk}
+use Rattle.blockbytes.proofs.Steps.{ok_of, is_ok, block_ok}
 use Rattle.blockform.proofs.reader.Block.transactions.Goals as goal
 
 pub bounds-self-64 : goal.bounds-self-64

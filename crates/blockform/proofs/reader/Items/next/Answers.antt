@@ -1,4 +1,4 @@
-use Rattle.std.proofs.Common.{is_ok as isOk, arith}
+use Rattle.std.proofs.Common.{arith}
 use Rattle.blockbytes.specs.Form.{item}
 use Rattle.blockbytes.specs.Places.{item_at, item_end}
 use Rattle.blockform.specs.Readers.{items_of, next_item, ItemsGood}
@@ -25,8 +25,8 @@ returns c =
     let r = c.args.self.now in
     let b = r.block.now in
     record {
-      good = (omega (arith, c.requires.0), times_taken (item r.inputs b) (item_end r.inputs b) (item_ends r.inputs b) r.left r.place _ (omega arith) c.item_end.ensures.end c.requires.1);
-      hands = list_taken (item_at r.inputs b) (item_end r.inputs b) r.left r.place _ _ (omega arith) c.item_end.ensures.piece c.item_end.ensures.end;
-      offset = (c.item_end.ensures.offset, c.item_end.ensures.long);
-      within = c.item_end.ensures.within;
+      good = (omega (arith, c.requires.0), times_taken (item r.inputs b) (item_end r.inputs b) (item_ends r.inputs b) r.left r.place _ (omega arith) c.item-end.ensures.end c.requires.1);
+      hands = list_taken (item_at r.inputs b) (item_end r.inputs b) r.left r.place _ _ (omega arith) c.item-end.ensures.piece c.item-end.ensures.end;
+      offset = (c.item-end.ensures.offset, c.item-end.ensures.long);
+      within = c.item-end.ensures.within;
     }

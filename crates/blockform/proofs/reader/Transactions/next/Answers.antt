@@ -1,9 +1,9 @@
-use Rattle.std.proofs.Common.{◌≡◌, ◌+◌, ◌*◌, get_or, is_ok, sym, refl, ap, ◌∙◌, arith}
-use Rattle.blockbytes.specs.Form.{times, input, output, transaction}
+use Rattle.std.proofs.Common.{◌≡◌, ◌+◌, ◌*◌, get_or, is_ok, refl, ap, ◌∙◌, arith}
+use Rattle.blockbytes.specs.Form.{times, output, transaction}
 use Rattle.blockbytes.specs.Value.{spends, makes}
-use Rattle.blockbytes.specs.Places.{list_at, end_of, input_at, input_end, inputs_end, output_at, output_end, transaction_at, transaction_end}
+use Rattle.blockbytes.specs.Places.{list_at, input_at, input_end, inputs_end, output_at, output_end, transaction_at, transaction_end}
 use Rattle.blockform.specs.Readers.{items_of, next_item, transactions_of, next_transaction, ItemsGood, TransactionsGood}
-use Rattle.blockbytes.proofs.Steps.{Found, list_none, list_taken, times_taken, map_list, transaction_ends}
+use Rattle.blockbytes.proofs.Steps.{list_none, list_taken, times_taken, map_list, transaction_ends}
 use Rattle.blockform.proofs.Walk.{next_found, inputs_long, transaction_long}
 use Rattle.blockform.proofs.reader.Transactions.next.Goals as goal
 
@@ -14,31 +14,31 @@ returns-then-self-eq0 c =
     let e = list_none (transaction_at r.block.now) (transaction_end r.block.now) r.left r.place c.if-self-eq0.true in
     record { good = c.requires; hands = (e, e) }
 
-pub id-at-id-requires : goal.id-at-id-requires
-id-at-id-requires c = omega (arith, (next_found c.args.self.now c.requires c.if-self-eq0.false).id)
+pub id_at-id-requires : goal.id_at-id-requires
+id_at-id-requires c = omega (arith, (next_found c.args.self.now c.requires c.if-self-eq0.false).id)
 
-pub overflow-add-inputs : goal.overflow-add-inputs
-overflow-add-inputs c = omega (arith, (next_found c.args.self.now c.requires c.if-self-eq0.false).id)
+pub overflow_add-inputs : goal.overflow_add-inputs
+overflow_add-inputs c = omega (arith, (next_found c.args.self.now c.requires c.if-self-eq0.false).id)
 
-pub overflow-add-count : goal.overflow-add-count
-overflow-add-count c = omega (arith, (next_found c.args.self.now c.requires c.if-self-eq0.false).id)
+pub overflow_add-count : goal.overflow_add-count
+overflow_add-count c = omega (arith, (next_found c.args.self.now c.requires c.if-self-eq0.false).id)
 
 pub bounds-block-count : goal.bounds-block-count
 bounds-block-count c = omega (arith, (next_found c.args.self.now c.requires c.if-self-eq0.false).id)
 
-pub past-inputs-end-requires : goal.past-inputs-end-requires
-past-inputs-end-requires c = (next_found c.args.self.now c.requires c.if-self-eq0.false).ins
+pub past_inputs-end-requires : goal.past_inputs-end-requires
+past_inputs-end-requires c = (next_found c.args.self.now c.requires c.if-self-eq0.false).ins
 
-pub overflow-add-outputs : goal.overflow-add-outputs
-overflow-add-outputs c = omega (arith, c.past-inputs-end.ensures, (next_found c.args.self.now c.requires c.if-self-eq0.false).mid)
+pub overflow_add-outputs : goal.overflow_add-outputs
+overflow_add-outputs c = omega (arith, c.past_inputs-end.ensures, (next_found c.args.self.now c.requires c.if-self-eq0.false).mid)
 
 pub bounds-block-end : goal.bounds-block-end
-bounds-block-end c = omega (arith, c.past-inputs-end.ensures, (next_found c.args.self.now c.requires c.if-self-eq0.false).mid)
+bounds-block-end c = omega (arith, c.past_inputs-end.ensures, (next_found c.args.self.now c.requires c.if-self-eq0.false).mid)
 
-pub overflow-add-self : goal.overflow-add-self
-overflow-add-self c =
+pub overflow_add-self : goal.overflow_add-self
+overflow_add-self c =
     let f = next_found c.args.self.now c.requires c.if-self-eq0.false in
-    let e = c.past-inputs-end.ensures in
+    let e = c.past_inputs-end.ensures in
     let g = ap (λ k. get_or c.args.self.now.block.now k 0) e in
     omega (arith, f.inside)
 
@@ -49,15 +49,15 @@ returns c =
     let b = r.block.now in
     let at = r.place in
     let f = next_found r c.requires c.if-self-eq0.false in
-    let mid : c.past-inputs-end.result ≡ inputs_end b at = c.past-inputs-end.ensures in
+    let mid : c.past_inputs-end.result ≡ inputs_end b at = c.past_inputs-end.ensures in
     let m = ap (λ k. get_or b k 0) mid in
-    let end : c.past-inputs-end.result + 1 + 17 * get_or b c.past-inputs-end.result 0 ≡ transaction_end b at = omega (arith, f.end) in
+    let end : c.past_inputs-end.result + 1 + 17 * get_or b c.past_inputs-end.result 0 ≡ transaction_end b at = omega (arith, f.end) in
     record {
       good = (omega (arith, c.requires.0), times_taken (transaction b) (transaction_end b) (transaction_ends b) r.left at _ (omega arith) end c.requires.1);
       hands = (
         transaction_at b at,
         record {
-          id = c.id-at-id.ensures;
+          id = c.id_at-id.ensures;
           first_input = omega arith;
           first_output = ap (λ k. k + 1) (mid ∙ inputs_long b r.left at f);
           inputs = map_list spends (input_at b) (input_end b) (get_or b (at + 32) 0) (at + 32 + 1);
