@@ -5,4 +5,7 @@ pub mod fault;
 pub mod file;
 pub mod reader;
 
-pub use blockbytes::{MAX_BLOCK, block_encoding};
+pub use blockbytes::block_encoding;
+
+// The greatest size of a block.
+pub const MAX_BLOCK: usize = 65_536;

@@ -5,10 +5,11 @@ ghost use Rattle.blockbytes.specs.Places.{read_block};
 ghost use Rattle.blockbytes.specs.Value.{BlockValue};
 ghost use Rattle.blockform.specs.Readers.{block_of, transactions_of, next_transaction, BlockGood, TransactionsGood};
 
+use crate::MAX_BLOCK;
 use crate::reader::fields::id_at;
 use crate::reader::{Block, Transactions};
 use blockbytes::fault::FormFault;
-use blockbytes::{MAX_BLOCK, form};
+use blockbytes::form;
 
 impl<'a> Block<'a> {
     // The block that the bytes are, or the first fault: the size first, and then the bytes from the front.
