@@ -1,9 +1,9 @@
 -- A transaction and a block, applied step by step. Assumes nothing.
-use Rattle.std.proofs.Common.{◌≡◌, ℕ, zero, suc, ◌+◌, ◌-◌, ◌/◌, ◌<◌, ◌≤◌, Bool, true, false, cond, ltb, List, [], ◌∷◌, length, IfOk, Ok, Err, Result, sym, refl, ap, ◌∙◌, subst, div-le_self, arith, lt-ltb, MatchResult}
+use Rattle.std.proofs.Common.{◌≡◌, ℕ, zero, suc, ◌+◌, ◌-◌, ◌/◌, ◌<◌, ◌≤◌, true, false, cond, ltb, List, ◌∷◌, length, IfOk, Ok, Err, Result, sym, ap, ◌∙◌, subst, div-le_self, arith, lt-ltb, MatchResult}
 use Rattle.std.proofs.lemmas.Bool.{le-ltb}
 use Rattle.coinsview.specs.Meaning.{Coins}
 use Rattle.blockform.specs.declared.reader.Transaction.{Transaction}
-use Rattle.blockform.specs.Value.{TransactionValue, All}
+use Rattle.blockform.specs.Value.{TransactionValue}
 use Rattle.blockform.specs.Readers.{items_of, ItemsGood, Hands}
 use Rattle.connecting.specs.declared.fault.TransactionFault.{TransactionFault}
 use Rattle.connecting.specs.declared.fault.TransactionFault.TheVariants.{Under}
@@ -11,9 +11,9 @@ use Rattle.connecting.specs.declared.fault.BlockFault.{BlockFault}
 use Rattle.connecting.specs.declared.fault.BlockFault.TheVariants.{Claim, Transaction as Of}
 use Rattle.connecting.specs.declared.block.Sums.{Sums}
 use Rattle.connecting.specs.Subsidy.{halved, subsidy_at}
-use Rattle.connecting.specs.Parts.{inputs_in, outputs_in}
-use Rattle.connecting.specs.Applied.{value_of, Moneyed, spending_needs}
-use Rattle.connecting.specs.Rules.{Setting, then, at_transaction, worth, coins_made, value_burned, others_needs, spend_all, make_all, none, added, spending, spending_all, whole, effect}
+use Rattle.connecting.specs.Parts.{inputs_in}
+use Rattle.connecting.specs.Applied.{value_of}
+use Rattle.connecting.specs.Rules.{Setting, then, at_transaction, worth, coins_made, value_burned, spend_all, make_all, none, added, spending, spending_all, whole, effect}
 use Rattle.connecting.proofs.Conserved.{no_err, ok_same}
 use Rattle.connecting.proofs.Tests.{reads}
 

@@ -1,5 +1,5 @@
 -- One transaction more, checked and placed. Assumes nothing.
-use Rattle.std.proofs.Common.{◌≡◌, ℕ, ◌+◌, ◌≤◌, Bool, true, false, cond, List, [], ◌∷◌, length, IfOk, Ok, Err, Result, sym, refl, ap, ◌∙◌, add_assoc, arith, MatchResult}
+use Rattle.std.proofs.Common.{◌≡◌, ℕ, ◌+◌, ◌≤◌, true, false, cond, List, ◌∷◌, length, IfOk, Ok, Err, Result, sym, refl, ap, ◌∙◌, arith, MatchResult}
 use Rattle.blockform.specs.Value.{TransactionValue}
 use Rattle.connecting.specs.declared.fault.TransactionFault.{TransactionFault}
 use Rattle.connecting.specs.declared.fault.BlockFault.{BlockFault}

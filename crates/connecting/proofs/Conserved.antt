@@ -1,15 +1,15 @@
 -- What a block takes from the coins and adds to them. Assumes nothing.
-use Rattle.std.proofs.Common.{◌≡◌, ℕ, ◌+◌, ◌-◌, ◌<◌, ◌≤◌, Bool, true, false, cond, ◌&&◌, ltb, leb, ◌⊎◌, List, [], ◌∷◌, length, Some, None, Ok, Err, Option, Result, sym, refl, ap, ◌∙◌, subst, inl, inr, arith, ltb-false}
+use Rattle.std.proofs.Common.{◌≡◌, ℕ, ◌+◌, ◌-◌, ◌<◌, ◌≤◌, Bool, true, false, cond, ◌&&◌, ltb, leb, ◌⊎◌, List, [], ◌∷◌, Some, None, Ok, Err, Option, Result, sym, refl, ap, ◌∙◌, subst, inl, inr, arith, ltb-false}
 use Rattle.std.proofs.lemmas.Bool.Decides.{leb_tells}
 use Rattle.coins.specs.declared.coin.Coin.{Coin}
 use Rattle.coins.specs.declared.coin.Lock.{Lock}
 use Rattle.coins.specs.declared.outpoint.Outpoint.{Outpoint}
-use Rattle.maps.specs.Maps.{Sorted, look, insert, remove}
+use Rattle.maps.specs.Maps.{Sorted}
 use Rattle.maps.specs.Keyed.{outpoints}
 use Rattle.maps.proofs.Laws.{sorted_insert, sorted_remove, total_insert, total_remove}
 use Rattle.coinsview.specs.declared.fault.ViewFault.{ViewFault}
 use Rattle.coinsview.specs.Meaning.{Coins, coin_at, with_coin, without, put_by, put_answer}
-use Rattle.blockform.specs.Value.{InputValue, OutputValue, TransactionValue, BlockValue}
+use Rattle.blockform.specs.Value.{InputValue, OutputValue, TransactionValue}
 use Rattle.connecting.specs.declared.fault.InputFault.{InputFault}
 use Rattle.connecting.specs.declared.fault.InputFault.TheVariants.{Shut}
 use Rattle.connecting.specs.declared.fault.TransactionFault.{TransactionFault}
@@ -17,7 +17,7 @@ use Rattle.connecting.specs.declared.fault.BlockFault.{BlockFault}
 use Rattle.connecting.specs.declared.block.Sums.{Sums}
 use Rattle.connecting.specs.Subsidy.{subsidy_at}
 use Rattle.connecting.specs.Value.{value_in}
-use Rattle.connecting.specs.Rules.{Setting, then, at_item, at_transaction, of_view, burns, worth, coins_made, value_burned, spend, spend_all, make, make_all, coin_by, coin_of, spending, added, spending_all, none, whole, effect}
+use Rattle.connecting.specs.Rules.{Setting, then, at_item, at_transaction, of_view, burns, worth, value_burned, spend, spend_all, make, make_all, coin_by, coin_of, spending, added, spending_all, none, effect}
 
 -- ---- steps that were not refused
 

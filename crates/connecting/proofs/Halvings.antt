@@ -1,5 +1,5 @@
 -- Halving k times is dividing by 2 ^ k. Assumes nothing.
-use Rattle.std.proofs.Common.{◌≡◌, ℕ, zero, suc, ◌*◌, ◌/◌, ◌^◌, ◌<◌, ◌≤◌, sym, refl, ap, ◌∙◌, arith, pow_mono}
+use Rattle.std.proofs.Common.{◌≡◌, ℕ, zero, suc, ◌/◌, ◌^◌, ◌<◌, ◌≤◌, sym, ap, ◌∙◌, arith, pow_mono}
 use native.Mathlib.Nat.{div-div-eq-div-mul, div-eq_of_lt, pow-succ'}
 use Rattle.connecting.specs.Subsidy.{halved}
 

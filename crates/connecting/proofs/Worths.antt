@@ -2,9 +2,8 @@
 use Rattle.std.proofs.Common.{◌≡◌, ℕ, ◌+◌, ◌≤◌, Bool, true, false, cond, ◌&&◌, leb, List, [], ◌∷◌, Ok, Err, Result, refl, arith}
 use Rattle.std.proofs.lemmas.Bool.{leb-true, and_parts}
 use Rattle.blockform.specs.Value.{OutputValue, TransactionValue, All}
-use Rattle.connecting.specs.declared.fault.TransactionFault.{TransactionFault}
 use Rattle.connecting.specs.Applied.{Moneyed}
-use Rattle.connecting.specs.Rules.{then, at_transaction, is_coinbase, worth, money, some_data, some_input, some_output, coinbase_checks, spending_checks, others_checks, transactions_checks}
+use Rattle.connecting.specs.Rules.{at_transaction, is_coinbase, worth, money, some_data, some_input, some_output, coinbase_checks, spending_checks, others_checks, transactions_checks}
 use Rattle.connecting.proofs.Conserved.{no_err, then_ok, test_ok, transaction_ok}
 
 passed : {X F : Type 0} (b : Bool) (r : Result X F) (e : F) (x : X) → cond b r (Err e) ≡ Ok x → (b ≡ true) × (r ≡ Ok x)

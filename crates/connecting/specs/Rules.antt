@@ -2,7 +2,7 @@
 --     checks      what is tested before a coin is touched
 --     needs       the undo entries that a block needs
 --     effect      the transactions applied in order, and the coinbase's claim
-use Rattle.std.specs.Prelude.{◌≡◌, ℕ, ◌+◌, ◌-◌, ◌<◌, ◌≤◌, Bool, true, false, cond, not, ◌&&◌, ◌⊎◌, List, [], ◌∷◌, length, Some, None, Ok, Err, Option, Result, ◌==◌, nat_le, nat_lt}
+use Rattle.std.specs.Prelude.{◌≡◌, ℕ, ◌+◌, ◌-◌, ◌<◌, ◌≤◌, Bool, true, false, cond, ◌&&◌, ◌⊎◌, List, [], ◌∷◌, length, Some, None, Ok, Err, Option, Result, ◌==◌, nat_le, nat_lt}
 use Rattle.std.specs.declared.cmp.Ordering.TheVariants.{Less, Equal, Greater}
 use Rattle.std.specs.declared.cmp.Ordering.{Ordering}
 use Rattle.std.proofs.Common.{inl, inr}
@@ -21,7 +21,7 @@ use Rattle.connecting.specs.declared.fault.InputFault.TheVariants.{Missing, Imma
 use Rattle.connecting.specs.declared.fault.TransactionFault.{TransactionFault}
 use Rattle.connecting.specs.declared.fault.TransactionFault.TheVariants.{Coinbase2, CbData, NoInput, NoOutput, Money, Under, Null, Item}
 use Rattle.connecting.specs.declared.fault.BlockFault.{BlockFault}
-use Rattle.connecting.specs.declared.fault.BlockFault.TheVariants.{Parent, LastHeight, LogFull, NoCoinbase, Claim, Transaction}
+use Rattle.connecting.specs.declared.fault.BlockFault.TheVariants.{Parent, LastHeight, NoCoinbase, Claim, Transaction}
 use Rattle.connecting.specs.declared.block.Sums.{Sums}
 use Rattle.std.specs.Ordering.{nat_cmp}
 

@@ -1,2 +1,3 @@
+pub mod Collected
 pub mod Parts
 pub mod Turning

@@ -5,7 +5,7 @@ use Rattle.compact.specs.Compact.{four_at}
 use Rattle.blockfile.specs.declared.fault.FileFault.{FileFault}
 use Rattle.blockfile.specs.declared.fault.FileFault.TheVariants.{Cut, Ended}
 use Rattle.blockform.specs.File.{record_at}
-use Rattle.ledger.specs.Pages.{part}
+use Rattle.ledger.specs.Runs.{part}
 
 passed : (a b : Bool) (e f : FileFault) (x y : List ℕ) → cond a (Err e) (cond b (Err f) (Ok x)) ≡ Ok y → (b ≡ false) × (x ≡ y)
 passed true b e f x y h = absurd (let z : ◌≡◌ {A = ℕ} 0 1 = cc in omega arith)

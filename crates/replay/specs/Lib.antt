@@ -1,3 +1,4 @@
 pub mod Answers
 pub mod Flat
+pub mod PageTurns
 pub mod Turns

@@ -1,11 +1,13 @@
 // The answer to each line of a script, as a line of the printout.
 ghost use Rattle.std.specs.Prelude.{◌≡◌, [], ◌∷◌, Ok as Granted};
 ghost use Rattle.ledger.specs.Book.{connect_answer, disconnect_answer, coins_of, held_by};
-ghost use Rattle.ledger.specs.Pages.{part as part_of, from_book, start_on};
+ghost use Rattle.ledger.specs.Pages.{from_book, start_on};
+ghost use Rattle.ledger.specs.Runs.{part as part_of};
 ghost use Rattle.ledger.specs.declared.runs.Call.TheVariants.{Start as StartCall, Connect as ConnectCall, Disconnect as DisconnectCall, Balance as BalanceCall};
 ghost use Rattle.script.specs.Cuts.{held};
 ghost use Rattle.replay.specs.Answers.{start_line, connect_line, disconnect_line, balance_line};
-ghost use Rattle.replay.specs.Turns.{parsed, start_id, place_after, calls_for, line_for, turn_place, turn_calls, turn_line, Turn};
+ghost use Rattle.replay.specs.PageTurns.{start_id, calls_for, line_for, turn_place, turn_calls, turn_line, PageTurn};
+ghost use Rattle.replay.specs.Turns.{parsed, Turn, Moved};
 
 use blockform::file::FileReader;
 use coins::coin::Lock;
@@ -103,7 +105,7 @@ fn start<V: CoinsView, C: SpendCondition>(
 ) -> Line
     requires { V.CoinsView.ok ledger.old.view }
     ensures ok { V.CoinsView.ok ledger.new.view }
-    ensures turn { Turn V.CoinsView C.SpendCondition blocks.now (StartCall halving maturity last start_id ∷ []) (λ q. start_line (start_on q halving maturity last)) result ledger.old ledger.new }
+    ensures page { PageTurn V.CoinsView C.SpendCondition blocks.now (StartCall halving maturity last start_id ∷ []) (λ q. start_line (start_on q halving maturity last)) result ledger.old ledger.new }
 {
     let call = Call::Start {
         halving,
@@ -126,7 +128,7 @@ fn connect<V: CoinsView, C: SpendCondition>(
 ) -> Line
     requires { V.CoinsView.ok ledger.old.view }
     ensures ok { V.CoinsView.ok ledger.new.view }
-    ensures turn { Turn V.CoinsView C.SpendCondition blocks.now (ConnectCall from to ∷ []) (λ q. connect_line (from_book (λ k. connect_answer k (part_of from to blocks.now)) q)) result ledger.old ledger.new }
+    ensures page { PageTurn V.CoinsView C.SpendCondition blocks.now (ConnectCall from to ∷ []) (λ q. connect_line (from_book (λ k. connect_answer k (part_of from to blocks.now)) q)) result ledger.old ledger.new }
 {
     let call = Call::Connect { from, to };
     match ledger.perform(blocks, call) {
@@ -139,7 +141,7 @@ fn connect<V: CoinsView, C: SpendCondition>(
 fn disconnect<V: CoinsView, C: SpendCondition>(ledger: &mut Ledger<V, C>, blocks: &[u8]) -> Line
     requires { V.CoinsView.ok ledger.old.view }
     ensures ok { V.CoinsView.ok ledger.new.view }
-    ensures turn { Turn V.CoinsView C.SpendCondition blocks.now (DisconnectCall ∷ []) (λ q. disconnect_line (from_book disconnect_answer q)) result ledger.old ledger.new }
+    ensures page { PageTurn V.CoinsView C.SpendCondition blocks.now (DisconnectCall ∷ []) (λ q. disconnect_line (from_book disconnect_answer q)) result ledger.old ledger.new }
 {
     let call = Call::Disconnect;
     match ledger.perform(blocks, call) {
@@ -156,7 +158,7 @@ fn balance<V: CoinsView, C: SpendCondition>(
 ) -> Line
     requires { V.CoinsView.ok ledger.old.view }
     ensures ok { V.CoinsView.ok ledger.new.view }
-    ensures turn { Turn V.CoinsView C.SpendCondition blocks.now (BalanceCall lock ∷ []) (λ q. balance_line lock (from_book (λ b. Granted (held_by lock (coins_of b))) q)) result ledger.old ledger.new }
+    ensures page { PageTurn V.CoinsView C.SpendCondition blocks.now (BalanceCall lock ∷ []) (λ q. balance_line lock (from_book (λ b. Granted (held_by lock (coins_of b))) q)) result ledger.old ledger.new }
 {
     let call = Call::Balance(lock);
     match ledger.perform(blocks, call) {
@@ -173,8 +175,8 @@ fn connect_next<V: CoinsView, C: SpendCondition>(
     requires { V.CoinsView.ok ledger.old.view }
     ensures ok { V.CoinsView.ok ledger.new.view }
     ensures file { file.new.file.now ≡ file.old.file.now }
-    ensures place { file.new.place ≡ place_after file.old.file.now file.old.place Command.Connect }
-    ensures turn { Turn V.CoinsView C.SpendCondition file.old.file.now (calls_for file.old.file.now file.old.place Command.Connect) (line_for file.old.file.now file.old.place Command.Connect) result ledger.old ledger.new }
+    ensures turn { Moved file.old.file.now file.old.place file.new.place ledger.old ledger.new result Command.Connect }
+    ensures page { PageTurn V.CoinsView C.SpendCondition file.old.file.now (calls_for file.old.file.now file.old.place Command.Connect) (line_for file.old.file.now file.old.place Command.Connect) result ledger.old ledger.new }
 {
     match file.next() {
         Ok(block) => {
@@ -193,8 +195,8 @@ fn perform<V: CoinsView, C: SpendCondition>(
     requires { V.CoinsView.ok ledger.old.view }
     ensures ok { V.CoinsView.ok ledger.new.view }
     ensures file { file.new.file.now ≡ file.old.file.now }
-    ensures place { file.new.place ≡ place_after file.old.file.now file.old.place command }
-    ensures turn { Turn V.CoinsView C.SpendCondition file.old.file.now (calls_for file.old.file.now file.old.place command) (line_for file.old.file.now file.old.place command) result ledger.old ledger.new }
+    ensures turn { Moved file.old.file.now file.old.place file.new.place ledger.old ledger.new result command }
+    ensures page { PageTurn V.CoinsView C.SpendCondition file.old.file.now (calls_for file.old.file.now file.old.place command) (line_for file.old.file.now file.old.place command) result ledger.old ledger.new }
 {
     let blocks = file.bytes();
     match command {
@@ -229,8 +231,9 @@ pub fn answer_line<V: CoinsView, C: SpendCondition>(
     requires { V.CoinsView.ok ledger.old.view }
     ensures ok { V.CoinsView.ok ledger.new.view }
     ensures file { file.new.file.now ≡ file.old.file.now }
+    ensures turn { Turn file.old.file.now number file.old.place file.new.place ledger.old ledger.new result (parsed (held line.entry)) }
     ensures place { file.new.place ≡ turn_place file.old.file.now file.old.place (parsed (held line.entry)) }
-    ensures turn { Turn V.CoinsView C.SpendCondition file.old.file.now (turn_calls file.old.file.now file.old.place (parsed (held line.entry))) (turn_line file.old.file.now number file.old.place (parsed (held line.entry))) result ledger.old ledger.new }
+    ensures page { PageTurn V.CoinsView C.SpendCondition file.old.file.now (turn_calls file.old.file.now file.old.place (parsed (held line.entry))) (turn_line file.old.file.now number file.old.place (parsed (held line.entry))) result ledger.old ledger.new }
 {
     match command_in(line) {
         Some(command) => perform(ledger, file, command),

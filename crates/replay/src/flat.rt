@@ -2,10 +2,11 @@
 ghost use Rattle.std.specs.Prelude.{◌≡◌, List, IfOk, string_bytes, OnOk};
 ghost use Rattle.coinsview.specs.Table.{table_view};
 ghost use Rattle.cache.specs.Parts.{cache_view};
-ghost use Rattle.ledger.specs.Laws.{Laws};
+ghost use Rattle.ledger.specs.PageLaws.{PageLaws};
 ghost use Rattle.ledger.specs.declared.runs.Answer.{Answer as Said};
 ghost use Rattle.replay.specs.Flat.{FlatLedger, badge_or_clock, first_page};
-ghost use Rattle.replay.specs.Turns.{printout, script_calls};
+ghost use Rattle.replay.specs.PageTurns.{printout, script_calls};
+ghost use Rattle.replay.specs.Turns.{Printed};
 
 use crate::text::printout_of;
 use cache::cache::Cache;
@@ -42,8 +43,9 @@ pub fn printout_over_flat_table<'a>(
     blocks: &'a [u8],
     script: &'a [u8],
 ) -> Result<String, AllocError>
-    ensures text { IfOk result (λ t. string_bytes t ≡ printout blocks.now script.now first_page) }
-    ensures laws { OnOk result ((l : FlatLedger) × (said : List Said) × Laws (cache_view table_view) badge_or_clock first_page blocks.now (script_calls blocks.now script.now) said l) }
+    ensures text { IfOk result (λ t. Printed blocks.now script.now (string_bytes t)) }
+    ensures page { IfOk result (λ t. string_bytes t ≡ printout blocks.now script.now first_page) }
+    ensures laws { OnOk result ((l : FlatLedger) × (said : List Said) × PageLaws (cache_view table_view) badge_or_clock first_page blocks.now (script_calls blocks.now script.now) said l) }
 {
     let mut cells = vec![in heap; CELL; CELLS]?;
     let view = Cache::new(heap, FlatTable::new(&mut cells))?;

@@ -1,7 +1,8 @@
 // The whole printout of a run.
 ghost use Rattle.std.specs.Prelude.{◌≡◌, ◌<◌, length, IfOk, string_bytes, OnOk};
 ghost use Rattle.ledger.specs.Pages.{Page, At};
-ghost use Rattle.replay.specs.Turns.{printout, script_calls, RunsOn};
+ghost use Rattle.replay.specs.PageTurns.{printout, script_calls, RunsOn};
+ghost use Rattle.replay.specs.Turns.{Printed};
 
 use crate::session::Session;
 use blockform::file::FileReader;
@@ -20,7 +21,8 @@ pub fn printout_of<'a, V: CoinsView, C: SpendCondition>(
 ) -> Result<String, AllocError>
     requires { V.CoinsView.ok ledger.old.view }
     ensures ok { V.CoinsView.ok ledger.new.view }
-    ensures text { (q : Page) → At V.CoinsView C.SpendCondition q ledger.old → IfOk result (λ t. string_bytes t ≡ printout blocks.now script.now q) }
+    ensures text { IfOk result (λ t. Printed blocks.now script.now (string_bytes t)) }
+    ensures page { (q : Page) → At V.CoinsView C.SpendCondition q ledger.old → IfOk result (λ t. string_bytes t ≡ printout blocks.now script.now q) }
     ensures laws { OnOk result (RunsOn V.CoinsView C.SpendCondition blocks.now (script_calls blocks.now script.now) ledger.old ledger.new) }
     ensures unasked { 65536 < length blocks.now → ledger.new ≡ ledger.old }
 {

@@ -1,5 +1,5 @@
 -- One coin taken or put, and noted: what the rules say of it, and that the way back leads to where it led. Assumes nothing.
-use Rattle.std.proofs.Common.{◌≡◌, ℕ, ◌+◌, ◌<◌, ◌≤◌, Bool, true, false, cond, ltb, leb, ◌⊎◌, List, [], ◌∷◌, length, is_ok, Some, None, Ok, Err, Option, Result, sym, refl, ap, ◌∙◌, subst, inl, inr, arith, lt-ltb, eq-eqb, MatchResult}
+use Rattle.std.proofs.Common.{◌≡◌, ℕ, ◌+◌, ◌<◌, ◌≤◌, Bool, true, false, cond, ltb, leb, ◌⊎◌, List, ◌∷◌, length, is_ok, Some, None, Ok, Err, Result, sym, refl, ap, ◌∙◌, subst, inl, inr, arith, lt-ltb, eq-eqb, MatchResult}
 use Rattle.std.proofs.lemmas.Bool.Decides.{leb_tells}
 use Rattle.std.proofs.lemmas.Bool.{ne_eqb}
 use Rattle.coins.specs.declared.coin.Coin.{Coin}
@@ -8,8 +8,7 @@ use Rattle.coins.specs.declared.outpoint.Outpoint.{Outpoint}
 use Rattle.coins.proofs.Equals.{coin_parts}
 use Rattle.maps.specs.Maps.{Sorted}
 use Rattle.maps.specs.Keyed.{outpoints}
-use Rattle.coinsview.specs.declared.fault.ViewFault.{ViewFault}
-use Rattle.coinsview.specs.Meaning.{Coins, coin_at, with_coin, without, put_by, put_answer}
+use Rattle.coinsview.specs.Meaning.{Coins, coin_at, with_coin, without, put_answer}
 use Rattle.undo.specs.declared.Record.{Record}
 use Rattle.undo.specs.declared.Record.TheVariants.{Made, Spent}
 use Rattle.undo.specs.Entries.{pushed}

@@ -1,4 +1,4 @@
-use Rattle.std.proofs.Common.{◌≡◌, ℕ, ◌+◌, ◌-◌, ◌<◌, ◌≤◌, List, ◌∷◌, length, Ok, Err, sym, refl, ap, ◌∙◌, subst, arith, rules}
+use Rattle.std.proofs.Common.{◌≡◌, ◌+◌, ◌<◌, ◌≤◌, List, ◌∷◌, Ok, Err, sym, refl, ap, ◌∙◌, subst, arith, rules}
 use Rattle.std.proofs.lemmas.Result.{err_from_is_err_and}
 use Rattle.undo.specs.Entries.{entries}
 use Rattle.blockform.specs.declared.reader.Transaction.{Transaction}
@@ -6,7 +6,7 @@ use Rattle.blockform.specs.Value.{TransactionValue, All}
 use Rattle.blockform.specs.Readers.{transactions_of, block_of, Hands}
 use Rattle.connecting.specs.Subsidy.{subsidy_at}
 use Rattle.connecting.specs.Applied.{setting, value_of, Moneyed}
-use Rattle.connecting.specs.Rules.{worth, coins_made, value_burned, transactions_needs, none, spending_all}
+use Rattle.connecting.specs.Rules.{worth, transactions_needs, none, spending_all}
 use Rattle.transacting.proofs.Turns.{back_on}
 use Rattle.applying.proofs.Applying.{Opened, opened, effect_unmade, effect_unspent, effect_claim, effect_done, subsidy_small}
 use Rattle.applying.proofs.apply_block.Goals as goal
@@ -37,7 +37,7 @@ returns-in_err-made g c =
     let is = (first_is c.in-Some.first h.0 (block_of a.block.now).transactions (transactions_of c.transactions-others.result) us c.transactions-others.ensures.all h.1 h.2).0 in
     let e = c.in_err-made.ensures in
     let t = effect_unmade (setting (v.most a.view.now) (g.C.SpendCondition.opens a.condition.now) a.site) a.site.height x (block_of a.block.now).transactions us (v.coins a.view.now) is c.in_err-made.field-0.0 e.value in
-    let p = err_from_is_err_and c.from-residual.result c.from-residual.ensures.1 in
+    let p = err_from_is_err_and c.from_residual.result c.from_residual.ensures.1 in
     record { well = e.well; fixed = e.fixed; value = rw (p.1, p.2) t; back = e.back; long = rw p.1 tt }
 
 pub apply_others-requires : goal.apply_others-requires
@@ -59,7 +59,7 @@ returns-in_err-sums g c =
     let q = c.in_err-sums.ensures in
     let rest = subst (λ k. spending_all (setting k (g.C.SpendCondition.opens a.condition.now) a.site) a.site.height 1 us (v.coins c.apply_coinbase.new.view) none ≡ Err c.in_err-sums.field-0.0) e.fixed q.value in
     let t = effect_unspent (setting (v.most a.view.now) (g.C.SpendCondition.opens a.condition.now) a.site) a.site.height x (block_of a.block.now).transactions us (v.coins a.view.now) is (v.coins c.apply_coinbase.new.view) e.value.0 c.in_err-sums.field-0.0 rest in
-    let p = err_from_is_err_and c.from-residual-in_err-sums.result c.from-residual-in_err-sums.ensures.1 in
+    let p = err_from_is_err_and c.from_residual-in_err-sums.result c.from_residual-in_err-sums.ensures.1 in
     record { well = q.well; fixed = q.fixed ∙ e.fixed; value = rw (p.1, p.2) t; back = back_on (v.most a.view.now) (v.most c.apply_coinbase.new.view) (entries c.apply_others.new.chain) (entries c.apply_coinbase.new.chain) (v.coins c.apply_others.new.view) (v.coins c.apply_coinbase.new.view) e.fixed q.back ∙ e.back; long = rw p.1 tt }
 
 pub overflow_add-due : goal.overflow_add-due

@@ -1,4 +1,4 @@
-use Rattle.std.proofs.Common.{◌≡◌, ◌+◌, ◌*◌, ◌≤◌, ◌∷◌, length, Ok, Err, sym, refl, ap, ◌∙◌, subst, arith, rules, MatchResult}
+use Rattle.std.proofs.Common.{◌≡◌, ◌+◌, ◌*◌, ◌≤◌, ◌∷◌, length, Ok, Err, ap, ◌∙◌, subst, arith, rules, MatchResult}
 use Rattle.std.proofs.lemmas.Result.{err_from_is_err_and}
 use Rattle.undo.specs.Entries.{entries}
 use Rattle.blockform.specs.Value.{All}
@@ -64,7 +64,7 @@ returns-in_err-one g c =
     let value = subst (λ k. MatchResult c.apply_spending.result (λ b. spending (setting k opens a.site) a.site.height x (v.coins l.view) ≡ Ok (v.coins c.apply_spending.new.view, b)) (λ f. spending (setting k opens a.site) a.site.height x (v.coins l.view) ≡ Err f)) l.invariant.1 c.apply_spending.ensures.value in
     let t = l.invariant.10 ∙ others_refused (setting room opens a.site) a.site.height l.t x (transactions_of l.others) us (v.coins l.view) (v.coins c.apply_spending.new.view) l.sums o.is c.at_transaction.result c.apply_spending.result c.in_err-one.field-0.0 value c.at_transaction.ensures c.in_err-one.was in
     let k = back_on room (v.most l.view) (entries c.apply_spending.new.chain) (entries l.chain) (v.coins c.apply_spending.new.view) (v.coins l.view) l.invariant.1 c.apply_spending.ensures.back ∙ l.invariant.11 in
-    let p = err_from_is_err_and c.from-residual.result c.from-residual.ensures.1 in
+    let p = err_from_is_err_and c.from_residual.result c.from_residual.ensures.1 in
     record {
       well = c.apply_spending.ensures.well;
       fixed = c.apply_spending.ensures.fixed ∙ l.invariant.1;

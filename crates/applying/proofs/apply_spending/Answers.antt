@@ -1,4 +1,4 @@
-use Rattle.std.proofs.Common.{◌≡◌, ◌-◌, ◌≤◌, sym, refl, ap, ◌∙◌, subst, arith, rules}
+use Rattle.std.proofs.Common.{◌-◌, ◌≤◌, sym, ap, ◌∙◌, arith, rules}
 use Rattle.undo.specs.Entries.{entries}
 use Rattle.connecting.specs.Applied.{setting, value_of}
 use Rattle.connecting.specs.Rules.{worth}

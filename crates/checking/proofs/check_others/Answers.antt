@@ -1,6 +1,5 @@
-use Rattle.std.proofs.Common.{◌≡◌, ◌≤◌, length, IfOk, Ok, Err, sym, ap, ◌∙◌, subst, arith, rules}
+use Rattle.std.proofs.Common.{◌≤◌, length, IfOk, Err, sym, ap, ◌∙◌, subst, arith, rules}
 use Rattle.std.proofs.lemmas.Result.{err_from_is_err_and}
-use Rattle.blockform.specs.Readers.{transactions_of}
 use Rattle.blockform.proofs.Few.{transactions_few}
 use Rattle.checking.proofs.Steps.{within, others_again, others_stop}
 use Rattle.checking.proofs.check_others.Goals as goal
@@ -23,7 +22,7 @@ pub returns-in_err-needed : goal.returns-in_err-needed
 returns-in_err-needed c =
     let l = c.loop-tx in
     let h = c.in-Some.ensures.hands in
-    let p = err_from_is_err_and c.from-residual.result c.from-residual.ensures.1 in
+    let p = err_from_is_err_and c.from_residual.result c.from_residual.ensures.1 in
     record {
       is = p.1 ∙ ap Err p.2 ∙ sym (l.invariant.3 ∙ others_stop l.t l.needed _ _ h.0 _ _ h.2 (c.check_spending.ensures.is h.0 h.1) c.at_transaction.ensures _ c.in_err-needed.was);
       few = subst (λ r. IfOk r (λ n. n ≤ 8192)) (sym p.1) tt;

@@ -1,6 +1,6 @@
-use Rattle.std.proofs.Common.{◌≡◌, ◌≤◌, true, false, length, IfOk, Ok, Err, sym, ap, ◌∙◌, subst, arith}
+use Rattle.std.proofs.Common.{◌≡◌, ◌≤◌, length, IfOk, Ok, Err, sym, ap, ◌∙◌, subst, arith}
 use Rattle.std.proofs.lemmas.Result.{err_from_is_err_and}
-use Rattle.blockform.specs.Readers.{items_of, transactions_of, Hands}
+use Rattle.blockform.specs.Readers.{items_of, Hands}
 use Rattle.blockform.specs.Value.{TransactionValue}
 use Rattle.blockform.specs.declared.reader.Transaction.{Transaction}
 use Rattle.connecting.specs.Parts.{inputs_in}
@@ -26,7 +26,7 @@ pub returns-in_err-made : goal.returns-in_err-made
 returns-in_err-made c =
     let h = c.in-Some.ensures.hands in
     let b = first_is _ h.0 _ h.1 c.is_coinbase.ensures in
-    let p = err_from_is_err_and c.from-residual.result c.from-residual.ensures.1 in
+    let p = err_from_is_err_and c.from_residual.result c.from_residual.ensures.1 in
     record {
       is = p.1 ∙ ap Err p.2 ∙ sym (first_stop _ _ h.0 h.2 (sym b ∙ c.if-not-is_coinbase.false) _ _ (c.check_coinbase.ensures.is h.0 h.1) c.at_transaction.ensures _ c.in_err-made.was);
       few = subst (λ r. IfOk r (λ n. n ≤ 8256)) (sym p.1) tt;
@@ -36,7 +36,7 @@ pub returns-in_err-needed : goal.returns-in_err-needed
 returns-in_err-needed c =
     let h = c.in-Some.ensures.hands in
     let b = first_is _ h.0 _ h.1 c.is_coinbase.ensures in
-    let p = err_from_is_err_and c.from-residual-in_err-needed.result c.from-residual-in_err-needed.ensures.1 in
+    let p = err_from_is_err_and c.from_residual-in_err-needed.result c.from_residual-in_err-needed.ensures.1 in
     record {
       is = p.1 ∙ ap Err p.2 ∙ sym (rest_stop _ _ h.0 h.2 (sym b ∙ c.if-not-is_coinbase.false) _ _ (c.check_coinbase.ensures.is h.0 h.1) c.at_transaction.ensures _ _ _ c.in_ok-made.was c.check_others.ensures.is c.in_err-needed.was);
       few = subst (λ r. IfOk r (λ n. n ≤ 8256)) (sym p.1) tt;

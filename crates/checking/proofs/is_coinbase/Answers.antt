@@ -1,4 +1,4 @@
-use Rattle.std.proofs.Common.{◌≡◌, ◌∙◌, arith}
+use Rattle.std.proofs.Common.{◌∙◌, arith}
 use Rattle.blockform.specs.Readers.{items_of}
 use Rattle.connecting.proofs.Tests.{one_piece}
 use Rattle.checking.proofs.is_coinbase.Goals as goal

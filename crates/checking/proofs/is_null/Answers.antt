@@ -1,4 +1,4 @@
-use Rattle.std.proofs.Common.{◌≡◌, sym, ap, ◌∙◌}
+use Rattle.std.proofs.Common.{sym, ap, ◌∙◌}
 use Rattle.connecting.proofs.Tests.{null_is}
 use Rattle.blockform.specs.Readers.{piece_of}
 use Rattle.connecting.specs.Parts.{null_piece}

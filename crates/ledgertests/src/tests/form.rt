@@ -1,5 +1,6 @@
 // Compact sizes into short buffers, blocks and files above the limit, and peeks into block files.
 use crate::block::{coinbase_block, id, to_seven, write_record};
+use blockform::fault::short_buffer;
 use blockform::file::FileReader;
 use coins::coin::{Coin, Lock};
 use coins::outpoint::Outpoint;
@@ -53,7 +54,8 @@ fn short_buffers(rt: HostRuntime) -> Result<(), Fail> {
     for size in &SIZES {
         writes_or_refuses(&rt, rt.alloc(), size.0, size.1).note(format_args!("size {}", size.0))?;
     }
-    check_said(&rt, ShortBuffer.refusal(), 9, Layer::Form, 0)
+    check_said(&rt, ShortBuffer.refusal(), 9, Layer::Form, 0)?;
+    check_said(&rt, short_buffer(), 9, Layer::Form, 0)
 }
 
 fn check_said(

@@ -1,7 +1,8 @@
 // The steps of a run.
 ghost use Rattle.std.specs.Prelude.{◌≡◌, ℕ, ◌+◌, ◌<◌, List, [], ◌∷◌, length, Option, MatchOption, OnSome};
 ghost use Rattle.script.specs.Cuts.{lines_of};
-ghost use Rattle.replay.specs.Turns.{parsed, turn_place, turn_calls, turn_line, Turn};
+ghost use Rattle.replay.specs.PageTurns.{turn_place, turn_calls, turn_line, PageTurn};
+ghost use Rattle.replay.specs.Turns.{Turn, parsed};
 
 use crate::answer::answer_line;
 use crate::session::Session;
@@ -33,7 +34,8 @@ impl<'a> Session<'a> {
         requires { V.CoinsView.ok ledger.old.view }
         ensures ok { V.CoinsView.ok ledger.new.view }
         ensures file { self.new.file.file.now ≡ self.old.file.file.now }
-        ensures turn { MatchOption result ((lines_of self.old.rest.now ≡ []) × (self.new ≡ self.old) × (ledger.new ≡ ledger.old)) (λ x. (l : Option (List ℕ)) × (lines_of self.old.rest.now ≡ l ∷ lines_of self.new.rest.now) × (self.new.number ≡ self.old.number + 1) × (self.new.file.place ≡ turn_place self.old.file.file.now self.old.file.place (parsed l)) × Turn V.CoinsView C.SpendCondition self.old.file.file.now (turn_calls self.old.file.file.now self.old.file.place (parsed l)) (turn_line self.old.file.file.now (self.old.number + 1) self.old.file.place (parsed l)) x ledger.old ledger.new) }
+        ensures turn { MatchOption result ((lines_of self.old.rest.now ≡ []) × (self.new ≡ self.old) × (ledger.new ≡ ledger.old)) (λ x. (l : Option (List ℕ)) × (lines_of self.old.rest.now ≡ l ∷ lines_of self.new.rest.now) × (self.new.number ≡ self.old.number + 1) × Turn self.old.file.file.now self.new.number self.old.file.place self.new.file.place ledger.old ledger.new x (parsed l)) }
+        ensures page { MatchOption result ((lines_of self.old.rest.now ≡ []) × (self.new ≡ self.old) × (ledger.new ≡ ledger.old)) (λ x. (l : Option (List ℕ)) × (lines_of self.old.rest.now ≡ l ∷ lines_of self.new.rest.now) × (self.new.number ≡ self.old.number + 1) × (self.new.file.place ≡ turn_place self.old.file.file.now self.old.file.place (parsed l)) × PageTurn V.CoinsView C.SpendCondition self.old.file.file.now (turn_calls self.old.file.file.now self.old.file.place (parsed l)) (turn_line self.old.file.file.now (self.old.number + 1) self.old.file.place (parsed l)) x ledger.old ledger.new) }
         ensures falls { OnSome result (length self.new.rest.now < length self.old.rest.now) }
     {
         let (line, rest) = cut(self.rest)?;

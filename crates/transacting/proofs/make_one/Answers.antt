@@ -1,4 +1,4 @@
-use Rattle.std.proofs.Common.{◌≡◌, refl, ◌∙◌, rules}
+use Rattle.std.proofs.Common.{refl}
 use Rattle.transacting.proofs.Turns.{coin_is, output_made}
 use Rattle.transacting.proofs.make_one.Goals as goal
 

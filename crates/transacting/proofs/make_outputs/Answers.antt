@@ -1,4 +1,4 @@
-use Rattle.std.proofs.Common.{◌≡◌, ◌+◌, ◌<◌, ◌≤◌, ◌∷◌, length, sym, refl, ap, ◌∙◌, subst, arith, rules}
+use Rattle.std.proofs.Common.{◌≡◌, ◌+◌, ◌∷◌, length, sym, refl, ap, ◌∙◌, subst, arith, rules}
 use Rattle.undo.specs.Entries.{entries}
 use Rattle.blockform.specs.Value.{OutputValue, makes}
 use Rattle.blockform.specs.Readers.{items_of}

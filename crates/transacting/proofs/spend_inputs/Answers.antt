@@ -1,7 +1,7 @@
-use Rattle.std.proofs.Common.{◌≡◌, ◌+◌, ◌<◌, ◌≤◌, List, ◌∷◌, length, sym, ap, ◌∙◌, subst, arith, rules}
+use Rattle.std.proofs.Common.{◌≡◌, ◌+◌, ◌<◌, ◌≤◌, ◌∷◌, length, ap, ◌∙◌, arith, rules}
 use Rattle.coins.specs.declared.outpoint.Outpoint.{Outpoint}
 use Rattle.undo.specs.Entries.{entries}
-use Rattle.blockform.specs.Value.{Piece, spends}
+use Rattle.blockform.specs.Value.{spends}
 use Rattle.blockform.specs.Readers.{items_of}
 use Rattle.blockform.proofs.Few.{items_few}
 use Rattle.connecting.specs.Parts.{inputs_in}

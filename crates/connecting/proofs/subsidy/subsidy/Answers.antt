@@ -1,5 +1,4 @@
-use Rattle.std.proofs.Common.{◌≡◌, ◌/◌, ◌^◌, ◌≤◌, sym, ap, ◌∙◌, subst, arith, lit<, rules}
-use Rattle.connecting.specs.Subsidy.{halved}
+use Rattle.std.proofs.Common.{◌≡◌, ◌/◌, ◌^◌, ◌≤◌, sym, ap, ◌∙◌, arith, lit<, rules}
 use Rattle.connecting.proofs.Halvings.{halved_is, halved_out}
 use Rattle.connecting.proofs.subsidy.subsidy.Goals as goal
 

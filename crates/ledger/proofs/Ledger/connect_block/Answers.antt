@@ -16,7 +16,7 @@ returns-in_err-needed g c =
     let o = g.C.SpendCondition in
     let a = c.args.self.now in
     let b = block_of c.in_ok-block.block in
-    let p = err_from_is_err_and c.from-residual-in_err-needed.result c.from-residual-in_err-needed.ensures.1 in
+    let p = err_from_is_err_and c.from_residual-in_err-needed.result c.from_residual-in_err-needed.ensures.1 in
     let stop = then_stopped (checks a.tip.id a.tip.height a.terms.last b) (needs b) _ (sym c.in_err-needed.was ∙ c.check_block.ensures.is) in
     record {
       ok = c.requires;
@@ -60,7 +60,7 @@ returns-in_err-sums g c =
     let o = g.C.SpendCondition in
     let a = c.args.self.now in
     let b = block_of c.in_ok-block.block in
-    let p = err_from_is_err_and c.from-residual-in_err-sums.result c.from-residual-in_err-sums.ensures.1 in
+    let p = err_from_is_err_and c.from_residual-in_err-sums.result c.from_residual-in_err-sums.ensures.1 in
     let pass = then_passed (checks a.tip.id a.tip.height a.terms.last b) (needs b) _ (sym c.in_ok-needed.was ∙ c.check_block.ensures.is) in
     let free : needs b ≤ 512 - length (entries a.chain) = omega (arith, pass.1, c.free.ensures, c.if-needed-free.false) in
     let e = c.in_err-sums.ensures in

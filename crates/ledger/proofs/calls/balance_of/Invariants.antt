@@ -12,7 +12,7 @@ invariant-loop-turn g l =
     v.ok l.view ×
     (v.most l.view ≡ v.most l.initial.view) ×
     (v.coins l.view ≡ m) ×
-    (next_in l.last m ≡ slice_get m l.-turn) ×
-    (held_by l.lock m ≡ summed l.balance (held_by l.lock (drop l.-turn m))) ×
-    (l.balance.coins ≤ l.-turn) ×
-    (l.balance.value ≤ 2100000000000000 * l.-turn)
+    (next_in l.last m ≡ slice_get m l._turn) ×
+    (held_by l.lock m ≡ summed l.balance (held_by l.lock (drop l._turn m))) ×
+    (l.balance.coins ≤ l._turn) ×
+    (l.balance.value ≤ 2100000000000000 * l._turn)

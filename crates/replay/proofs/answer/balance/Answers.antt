@@ -13,8 +13,8 @@ returns g c =
     let r = c.in-Balance.answer in
     record {
       ok = e.ok;
-      turn = record {
+      page = record {
         line = λ q s. let h = (e.performed.law q s).1 in let i : r ≡ from_book (λ b. Ok (held_by c.args.lock (coins_of b))) q = cc in c.balance_line.ensures ∙ ap (balance_line c.args.lock) i;
-        runs = runs_one g.V.CoinsView g.C.SpendCondition c.args.blocks.now c.args.ledger.now c.perform.new.self _ (answer.Balance r) e.laws;
+        runs = runs_one g.V.CoinsView g.C.SpendCondition c.args.blocks.now c.args.ledger.now c.perform.new.self _ (answer.Balance r) e.page_laws;
       };
     }

@@ -1,15 +1,8 @@
 use Rattle.std.proofs.Common.{◌≡◌, sym, refl, ap, ◌∙◌}
-use Rattle.replay.specs.Turns.{past}
 use Rattle.replay.proofs.Turning.{connect_turn}
 use Rattle.replay.proofs.answer.connect_next.Goals as goal
 
-pub returns-in-Ok : goal.returns-in-Ok
-returns-in-Ok g c =
+pub returns-in-Ok-clause-page : goal.returns-in-Ok-clause-page
+returns-in-Ok-clause-page g c =
     let e = c.in-Ok.ensures in
-    let a = c.args.file.now in
-    record {
-      ok = c.connect.ensures.ok;
-      file = e.same;
-      place = e.cases.1 ∙ sym (ap (past a.place) e.cases.0);
-      turn = connect_turn g.V.CoinsView g.C.SpendCondition _ _ c.in-Ok.block.now a.place _ _ c.connect.result c.args.ledger.now c.connect.new.ledger (c.bytes.ensures ∙ e.same) e.cases.0 (c.place-to.ensures ∙ e.cases.1) refl c.connect.ensures.turn;
-    }
+    connect_turn g.V.CoinsView g.C.SpendCondition _ _ c.in-Ok.block.now c.args.file.now.place _ _ c.connect.result c.args.ledger.now c.connect.new.ledger (c.bytes.ensures ∙ e.same) e.cases.0 (c.place-to.ensures ∙ e.cases.1) refl c.connect.ensures.page

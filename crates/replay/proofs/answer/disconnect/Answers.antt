@@ -13,8 +13,8 @@ returns g c =
     let r = c.in-Disconnect.answer in
     record {
       ok = e.ok;
-      turn = record {
+      page = record {
         line = λ q s. let h = (e.performed.law q s).1 in let i : r ≡ from_book disconnect_answer q = cc in c.disconnect_line.ensures ∙ ap (disconnect_line) i;
-        runs = runs_one g.V.CoinsView g.C.SpendCondition c.args.blocks.now c.args.ledger.now c.perform.new.self _ (answer.Disconnect r) e.laws;
+        runs = runs_one g.V.CoinsView g.C.SpendCondition c.args.blocks.now c.args.ledger.now c.perform.new.self _ (answer.Disconnect r) e.page_laws;
       };
     }

@@ -12,8 +12,8 @@ returns g c =
     let r = c.in-Start.answer in
     record {
       ok = e.ok;
-      turn = record {
+      page = record {
         line = λ q s. let h = (e.performed.law q s).1 in let i : r ≡ start_on q c.args.halving c.args.maturity c.args.last = cc in c.start_line.ensures ∙ ap (start_line) i;
-        runs = runs_one g.V.CoinsView g.C.SpendCondition c.args.blocks.now c.args.ledger.now c.perform.new.self _ (answer.Start r) e.laws;
+        runs = runs_one g.V.CoinsView g.C.SpendCondition c.args.blocks.now c.args.ledger.now c.perform.new.self _ (answer.Start r) e.page_laws;
       };
     }
