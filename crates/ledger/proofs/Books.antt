@@ -1,5 +1,5 @@
 -- What each call does to the ledger is what it does to the book. Assumes nothing.
-use Rattle.std.proofs.Common.{◌≡◌, ℕ, zero, suc, ◌+◌, ◌-◌, ◌<◌, ◌≤◌, min, Bool, true, false, cond, ◌&&◌, List, [], ◌∷◌, length, is_ok, Some, None, Ok, Err, Option, Result, sym, refl, ap, ◌∙◌, subst, arith}
+use Rattle.std.proofs.Common.{◌≡◌, ℕ, zero, suc, ◌+◌, ◌<◌, ◌≤◌, min, Bool, true, false, ◌&&◌, List, [], ◌∷◌, length, is_ok, Some, None, Ok, Err, Result, sym, refl, ap, ◌∙◌, subst, arith}
 use Rattle.coinsview.specs.declared.view.CoinsView.{Ghosts as ViewGhosts}
 use Rattle.views.specs.declared.condition.SpendCondition.{Ghosts as ConditionGhosts}
 use Rattle.maps.specs.Maps.{Sorted}
@@ -7,15 +7,15 @@ use Rattle.maps.specs.Keyed.{outpoints}
 use Rattle.coinsview.specs.Meaning.{Coins}
 use Rattle.undo.specs.declared.Record.{Record}
 use Rattle.undo.specs.declared.Record.TheVariants.{Mark, Made, Spent}
-use Rattle.undo.specs.Entries.{entries, mark, newest}
+use Rattle.undo.specs.Entries.{entries, newest}
 use Rattle.blockform.specs.Value.{BlockValue}
 use Rattle.connecting.specs.declared.block.Sums.{Sums}
 use Rattle.connecting.specs.declared.fault.BlockFault.{BlockFault}
-use Rattle.connecting.specs.Rules.{then, checks, needs, effect}
+use Rattle.connecting.specs.Rules.{checks, needs, effect}
 use Rattle.connecting.specs.Subsidy.{subsidy_at}
 use Rattle.unwinding.specs.Undoing.{Back, undone, found, back}
 use Rattle.connecting.specs.Value.{value_in}
-use Rattle.connecting.proofs.Conserved.{then_ok, ok_same, effect_value}
+use Rattle.connecting.proofs.Conserved.{then_ok, effect_value}
 use Rattle.ledger.specs.declared.Ledger.{Ledger}
 use Rattle.ledger.specs.declared.fault.LedgerFault.{LedgerFault}
 use Rattle.ledger.specs.Book.{Terms, Book, tip_id, accept, coins_after, burned_by, replay, coins_of, all_burned, all_subsidies, entries_needed, settled}

@@ -1,11 +1,10 @@
 -- Connecting a block is what the book says. Assumes nothing.
-use Rattle.std.proofs.Common.{◌≡◌, ℕ, suc, ◌+◌, ◌-◌, ◌<◌, ◌≤◌, Bool, true, false, cond, ltb, List, [], ◌∷◌, length, is_ok, Some, Ok, Err, Result, Ordering, Less, Equal, Greater, sym, refl, ap, ◌∙◌, subst, arith, le-ltb, lt-ltb}
+use Rattle.std.proofs.Common.{◌≡◌, ℕ, ◌+◌, ◌-◌, ◌<◌, ◌≤◌, Bool, true, false, cond, ltb, List, ◌∷◌, length, is_ok, Some, Ok, Err, Result, Ordering, Less, Equal, Greater, sym, refl, ap, ◌∙◌, subst, arith, le-ltb, lt-ltb}
 use Rattle.std.specs.Cmp.Lexicographic.{slice_cmp}
 use Rattle.coins.proofs.Ordered.{lex_equal}
 use Rattle.coinsview.specs.declared.view.CoinsView.{Ghosts as ViewGhosts}
 use Rattle.views.specs.declared.condition.SpendCondition.{Ghosts as ConditionGhosts}
 use Rattle.coinsview.specs.Meaning.{Coins}
-use Rattle.undo.specs.declared.Record.{Record}
 use Rattle.undo.specs.Entries.{entries}
 use Rattle.blockform.specs.Value.{BlockValue, TransactionValue}
 use Rattle.blockform.specs.Places.{read_block}
@@ -17,8 +16,8 @@ use Rattle.unwinding.specs.Undoing.{back}
 use Rattle.connecting.proofs.Conserved.{no_err, ok_same}
 use Rattle.ledger.specs.declared.Ledger.{Ledger}
 use Rattle.ledger.specs.declared.Connected.{Connected}
-use Rattle.ledger.specs.Book.{Terms, Book, tip_id, accept, coins_after, replay, coins_of, entries_needed, of_form, connect_block, connect_bytes, with_block, told, connected}
-use Rattle.ledger.specs.Standing.{AllAccepted, Unwinds, Stands, Unchanged}
+use Rattle.ledger.specs.Book.{Book, tip_id, accept, coins_after, replay, coins_of, entries_needed, of_form, connect_block, connect_bytes, with_block, told, connected}
+use Rattle.ledger.specs.Standing.{Stands, Unchanged}
 use Rattle.ledger.proofs.Books.{same_stands, chain_long}
 use Rattle.std.specs.Ordering.{nat_cmp}
 

@@ -1,23 +1,22 @@
 -- One call more, on any page. Assumes nothing.
-use Rattle.std.proofs.Common.{◌≡◌, ℕ, zero, suc, ◌+◌, ◌<◌, ◌≤◌, Bool, true, false, List, [], ◌∷◌, ◌++◌, length, get_or, take, set, Ok, Err, sym, refl, ap, ◌∙◌, subst, arith}
+use Rattle.std.proofs.Common.{◌≡◌, ℕ, zero, suc, ◌+◌, ◌<◌, true, List, [], ◌∷◌, ◌++◌, length, get_or, take, set, Ok, Err, sym, refl, ap, ◌∙◌, subst, arith}
 use Rattle.std.proofs.lemmas.List.{take_more, take_more_set}
 use Rattle.coinsview.specs.declared.view.CoinsView.{Ghosts as ViewGhosts}
 use Rattle.views.specs.declared.condition.SpendCondition.{Ghosts as ConditionGhosts}
 use Rattle.blockform.specs.Value.{BlockValue}
 use Rattle.connecting.specs.Value.{value_in}
 use Rattle.ledger.specs.declared.Ledger.{Ledger}
-use Rattle.ledger.specs.declared.Disconnected.{Disconnected}
 use Rattle.ledger.specs.declared.Outcome.TheVariants.{Clean}
 use Rattle.ledger.specs.declared.fault.LedgerFault.TheVariants.{Nothing}
 use Rattle.ledger.specs.declared.runs.Call.{Call}
 use Rattle.ledger.specs.declared.runs.Call.TheVariants as call
 use Rattle.ledger.specs.declared.runs.Answer.{Answer}
 use Rattle.ledger.specs.declared.runs.Answer.TheVariants as answer
-use Rattle.ledger.specs.Book.{Book, replay, all_burned, all_subsidies, disconnect_by}
+use Rattle.ledger.specs.Book.{Book, all_burned, disconnect_by}
 use Rattle.ledger.specs.Standing.{Stands, Follows}
 use Rattle.ledger.specs.Runs.{book_after, answer_of}
 use Rattle.ledger.specs.Pages.{Page, unstarted, standing, At, page_after, answer_on, pages_after, answers_on}
-use Rattle.ledger.specs.Laws.{is_flush, ends_in_flush}
+use Rattle.ledger.specs.Laws.{ends_in_flush}
 use Rattle.ledger.specs.PageLaws.{BookLaws, PageLaws}
 use Rattle.ledger.proofs.Running.{ends_more, flush_is}
 use Rattle.ledger.proofs.Books.{replay_value}
@@ -103,8 +102,8 @@ module _ {V C : Type 0} (v : ViewGhosts V) (c : ConditionGhosts C) where
         answers = ap (λ l. l ++ (r ∷ [])) h.answers ∙ ap (λ y. answers_on bytes cs p ++ (y ∷ [])) one.1 ∙ sym (answers_more bytes cs x p);
         stays = λ k e. stays_all bytes (cs ++ (x ∷ [])) p k e;
         book = page_laws (pages_after bytes (cs ++ (x ∷ [])) p) bytes (cs ++ (x ∷ [])) z s (λ t e.
-          let f = flush_is x (sym (ends_more cs x) ∙ e) in
-          flush f (still_started q a z h.page (subst (λ y. At v c y z) (ap (λ y. page_after bytes y q) f) one.0) t));
+            let f = flush_is x (sym (ends_more cs x) ∙ e) in
+            flush f (still_started q a z h.page (subst (λ y. At v c y z) (ap (λ y. page_after bytes y q) f) one.0) t));
       }
 
   -- one call more of a list

@@ -1,5 +1,5 @@
 -- Each call on any page. Assumes nothing.
-use Rattle.std.proofs.Common.{◌≡◌, ℕ, zero, suc, min, Bool, true, false, List, [], ◌∷◌, length, is_ok, Ok, Err, Result, sym, refl, ap, ◌∙◌, subst, arith}
+use Rattle.std.proofs.Common.{◌≡◌, ℕ, true, false, List, length, is_ok, Ok, Err, Result, sym, refl, ap, ◌∙◌, subst}
 use Rattle.coinsview.specs.Meaning.{Coins}
 use Rattle.coinsview.specs.declared.view.CoinsView.{Ghosts as ViewGhosts}
 use Rattle.views.specs.declared.condition.SpendCondition.{Ghosts as ConditionGhosts}
@@ -8,13 +8,10 @@ use Rattle.ledger.specs.declared.Ledger.{Ledger}
 use Rattle.ledger.specs.declared.Tip.{Tip}
 use Rattle.ledger.specs.declared.fault.LedgerFault.{LedgerFault}
 use Rattle.ledger.specs.declared.fault.LedgerFault.TheVariants.{NotStarted}
-use Rattle.ledger.specs.declared.runs.Call.TheVariants as call
-use Rattle.ledger.specs.declared.runs.Answer.TheVariants as answer
 use Rattle.ledger.specs.Book.{Terms, Book, fresh, tip_of}
 use Rattle.ledger.specs.Starting.{in_range, start_answer, start_terms}
 use Rattle.ledger.specs.Standing.{Stands, Follows, Unchanged}
 use Rattle.ledger.specs.Pages.{Opens, Page, unstarted, standing, Waits, At, book_by, from_book, start_on, begun, begun_by}
-use Rattle.ledger.proofs.Books.{clash}
 
 pub unchanged : {V C : Type 0} (v : ViewGhosts V) (a z : Ledger V C) → z ≡ a → Unchanged v a z
 unchanged v a z e = record {

@@ -1,5 +1,5 @@
 -- One call more. Assumes nothing.
-use Rattle.std.proofs.Common.{◌≡◌, ℕ, zero, suc, ◌+◌, ◌<◌, ◌≤◌, Bool, true, false, List, [], ◌∷◌, ◌++◌, length, get_or, take, set, Ok, Err, sym, refl, ap, ◌∙◌, subst, arith}
+use Rattle.std.proofs.Common.{◌≡◌, ℕ, zero, suc, ◌+◌, ◌<◌, true, List, [], ◌∷◌, ◌++◌, length, get_or, take, set, Ok, Err, sym, refl, ap, ◌∙◌, subst, arith}
 use Rattle.std.proofs.lemmas.List.{take_more, take_more_set}
 use Rattle.coinsview.specs.declared.view.CoinsView.{Ghosts as ViewGhosts}
 use Rattle.views.specs.declared.condition.SpendCondition.{Ghosts as ConditionGhosts}
@@ -10,7 +10,7 @@ use Rattle.ledger.specs.declared.fault.LedgerFault.TheVariants.{Nothing}
 use Rattle.ledger.specs.declared.runs.Call.{Call}
 use Rattle.ledger.specs.declared.runs.Call.TheVariants as call
 use Rattle.ledger.specs.declared.runs.Answer.{Answer}
-use Rattle.ledger.specs.Book.{Book, replay, all_burned, all_subsidies, disconnect_answer, disconnect_by}
+use Rattle.ledger.specs.Book.{Book, all_burned, disconnect_by}
 use Rattle.ledger.specs.Standing.{Stands, Follows}
 use Rattle.ledger.specs.Runs.{book_after, answer_of, books_after, answers_of}
 use Rattle.ledger.specs.Laws.{is_flush, ends_in_flush, Laws}

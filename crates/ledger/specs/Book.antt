@@ -2,12 +2,11 @@
 --     replay            the coins left by connecting the standing blocks in order to no coins
 --     connected, ..     the book after each call
 --     connect_answer, ..   what the call answers
-use Rattle.std.specs.Prelude.{ℕ, zero, suc, ◌+◌, ◌-◌, min, cond, List, [], ◌∷◌, length, Ok, Err, Option, Result, nat_lt}
+use Rattle.std.specs.Prelude.{ℕ, zero, suc, ◌+◌, ◌-◌, min, cond, List, [], ◌∷◌, length, Ok, Err, Result, nat_lt}
 use Rattle.coins.specs.declared.coin.Coin.{Coin}
 use Rattle.coins.specs.declared.coin.Lock.{Lock}
-use Rattle.coins.specs.declared.outpoint.Outpoint.{Outpoint}
 use Rattle.coins.specs.Same.{same_lock}
-use Rattle.coinsview.specs.Meaning.{Coins, coin_at, next_in}
+use Rattle.coinsview.specs.Meaning.{Coins}
 use Rattle.blockbytes.specs.declared.fault.FormFault.{FormFault}
 use Rattle.blockform.specs.Value.{BlockValue}
 use Rattle.blockform.specs.Places.{read_block}

@@ -1,5 +1,5 @@
 -- Examples at the edges of the rules.
-use Rattle.std.specs.Prelude.{◌≡◌, ℕ, ◌<◌, List, [], ◌∷◌, Ok, Err}
+use Rattle.std.specs.Prelude.{◌≡◌, ℕ, ◌<◌, [], ◌∷◌, Err}
 use Rattle.compact.specs.declared.SizeFault.TheVariants.{LongForm}
 use Rattle.compact.specs.Compact.{encode, read_size}
 use Rattle.coins.specs.declared.coin.Coin.{Coin}

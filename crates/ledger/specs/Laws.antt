@@ -1,10 +1,9 @@
 -- The laws over runs: what holds of a ledger after any list of calls, by the book that was fed the same calls.
-use Rattle.std.specs.Prelude.{◌≡◌, ℕ, zero, suc, ◌+◌, Bool, true, false, List, [], ◌∷◌, length, Ok, Err, ◌≢◌}
+use Rattle.std.specs.Prelude.{◌≡◌, ℕ, ◌+◌, Bool, true, false, List, [], ◌∷◌, Ok, Err, ◌≢◌}
 use Rattle.coinsview.specs.declared.view.CoinsView.{Ghosts as ViewGhosts}
 use Rattle.views.specs.declared.condition.SpendCondition.{Ghosts as ConditionGhosts}
 use Rattle.connecting.specs.Value.{value_in}
 use Rattle.ledger.specs.declared.Ledger.{Ledger}
-use Rattle.ledger.specs.declared.Disconnected.{Disconnected}
 use Rattle.ledger.specs.declared.Outcome.TheVariants.{Clean}
 use Rattle.ledger.specs.declared.fault.LedgerFault.TheVariants.{Nothing}
 use Rattle.ledger.specs.declared.runs.Call.{Call}

@@ -1,7 +1,7 @@
 -- The page that a ledger is on: what it answers by. Before the start this is what it was made over, after the start the book.
 --     page_after, answer_on       one call
 --     pages_after, answers_on     a list of calls
-use Rattle.std.specs.Prelude.{◌≡◌, ℕ, min, Bool, true, false, List, [], ◌∷◌, length, Ok, Err, Result}
+use Rattle.std.specs.Prelude.{◌≡◌, ℕ, min, Bool, false, List, [], ◌∷◌, length, Ok, Err, Result}
 use Rattle.coins.specs.declared.coin.Lock.{Lock}
 use Rattle.coinsview.specs.Meaning.{Coins, coin_at, next_in}
 use Rattle.coinsview.specs.declared.view.CoinsView.{Ghosts as ViewGhosts}

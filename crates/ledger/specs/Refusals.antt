@@ -1,5 +1,4 @@
 -- The reason and the place of each fault for which a call on the ledger is refused.
-use Rattle.refusal.specs.declared.Reason.{Reason}
 use Rattle.refusal.specs.declared.Reason.TheVariants as reason
 use Rattle.refusal.specs.declared.Refusal.{Refusal}
 use Rattle.connecting.specs.Refusals.{placed, block_refusal}

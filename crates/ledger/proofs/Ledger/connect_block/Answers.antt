@@ -1,10 +1,9 @@
-use Rattle.std.proofs.Common.{◌≡◌, ◌+◌, ◌-◌, ◌<◌, ◌≤◌, true, length, Ok, Err, sym, refl, ap, ◌∙◌, arith}
+use Rattle.std.proofs.Common.{◌-◌, ◌<◌, ◌≤◌, true, length, Err, sym, refl, ap, ◌∙◌, arith}
 use Rattle.std.proofs.lemmas.Result.{err_from_is_err_and}
 use Rattle.undo.specs.Entries.{entries}
 use Rattle.blockform.specs.Readers.{block_of}
 use Rattle.connecting.specs.Rules.{checks, needs}
 use Rattle.connecting.proofs.Worths.{checked_moneyed}
-use Rattle.ledger.specs.Book.{connect_bytes, told}
 use Rattle.ledger.proofs.Books.{clash}
 use Rattle.ledger.proofs.Performing.{unchanged}
 use Rattle.ledger.proofs.Connects.{then_passed, then_stopped, checks_say, check_refused, full_refused, effect_refused, effect_accepted, refused_law, accepted_law}

@@ -1,10 +1,7 @@
-use Rattle.std.proofs.Common.{◌≡◌, ℕ, min, true, false, is_ok, Ok, Err, sym, refl, ap, ◌∙◌, subst, arith}
-use Rattle.std.specs.Option.{option_map}
+use Rattle.std.proofs.Common.{◌≡◌, ℕ, min, is_ok, Ok, sym, refl, ap, ◌∙◌, subst, arith}
 use Rattle.coinsview.specs.Meaning.{coin_at, next_in}
-use Rattle.ledger.specs.declared.runs.Call.{Call}
-use Rattle.ledger.specs.declared.runs.Call.TheVariants as call
 use Rattle.ledger.specs.declared.runs.Answer.TheVariants as answer
-use Rattle.ledger.specs.Book.{connected, connect_answer, disconnected, disconnect_answer, settled, tip_of, coins_of, held_by}
+use Rattle.ledger.specs.Book.{connected, connect_answer, disconnected, disconnect_answer, settled, coins_of, held_by}
 use Rattle.ledger.specs.PageLaws.{Performed}
 use Rattle.ledger.specs.Runs.{part}
 use Rattle.ledger.specs.Standing.{Stands}

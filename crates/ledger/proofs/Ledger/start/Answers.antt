@@ -1,4 +1,4 @@
-use Rattle.std.proofs.Common.{◌≡◌, ℕ, zero, suc, ◌≤◌, Bool, true, false, List, [], ◌∷◌, length, Ok, sym, refl, ap, ◌∙◌, arith}
+use Rattle.std.proofs.Common.{◌≡◌, ◌≤◌, true, false, List, [], ◌∷◌, length, sym, refl, ap, ◌∙◌, arith}
 use Rattle.ledger.specs.Starting.{start_answer, in_range}
 use Rattle.ledger.proofs.Books.{clash}
 use Rattle.ledger.proofs.Ledger.start.Goals as goal

@@ -1,4 +1,4 @@
-use Rattle.std.proofs.Common.{◌≡◌, ◌*◌, ◌≤◌, length, drop}
+use Rattle.std.proofs.Common.{◌≡◌, ◌*◌, ◌≤◌, drop}
 use Rattle.std.specs.List.{slice_get}
 use Rattle.coinsview.specs.Meaning.{next_in}
 use Rattle.ledger.specs.Book.{held_by}

@@ -1,4 +1,4 @@
-use Rattle.std.proofs.Common.{◌≡◌, min, length, take, drop, sym, ap, ◌∙◌, rules}
+use Rattle.std.proofs.Common.{◌≡◌, min, length, take, drop, sym, ap, ◌∙◌}
 use Rattle.ledger.proofs.Parts.{take_most, drop_most, length_most}
 use Rattle.ledger.proofs.runs.part.Goals as goal
 
