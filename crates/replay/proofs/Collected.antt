@@ -1,5 +1,5 @@
 -- One printed line for each line of the script.
-use Rattle.std.proofs.Common.{◌≡◌, ℕ, ◌+◌, List, [], ◌∷◌, ◌++◌, length, Option, sym, refl, ap, ◌∙◌, append_assoc, append-nil, zero-add, arith, length-append}
+use Rattle.std.proofs.Common.{◌≡◌, ℕ, ◌+◌, List, [], ◌∷◌, ◌++◌, length, Option, sym, ap, ◌∙◌, append_assoc, append-nil, zero-add, arith, length-append}
 use Rattle.printout.specs.declared.Line.{Line}
 use Rattle.printout.specs.Texts.{line_text}
 use Rattle.script.specs.Cuts.{lines_of}

@@ -1,5 +1,5 @@
 -- The block of a record is a part of the file. Assumes nothing.
-use Rattle.std.proofs.Common.{◌≡◌, ℕ, ◌+◌, ◌-◌, ◌≤◌, Bool, true, false, cond, ltb, leb, List, length, take, drop, Ok, Err, Result, sym, refl, ap, ◌∙◌, arith, length-drop, ltb-false}
+use Rattle.std.proofs.Common.{◌≡◌, ℕ, ◌+◌, ◌≤◌, Bool, true, false, cond, ltb, leb, List, length, take, drop, Ok, Err, sym, refl, ap, ◌∙◌, arith, length-drop, ltb-false}
 use Rattle.std.proofs.lemmas.List.{drop-take, length-take-le}
 use Rattle.compact.specs.Compact.{four_at}
 use Rattle.blockfile.specs.declared.fault.FileFault.{FileFault}

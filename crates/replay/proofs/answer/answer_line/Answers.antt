@@ -1,4 +1,4 @@
-use Rattle.std.proofs.Common.{◌≡◌, ap, ◌∙◌, subst}
+use Rattle.std.proofs.Common.{ap, ◌∙◌, subst}
 use Rattle.replay.specs.Turns.{Turn}
 use Rattle.replay.specs.PageTurns.{turn_place, turn_calls, turn_line, PageTurn}
 use Rattle.replay.proofs.answer.answer_line.Goals as goal

@@ -1,5 +1,4 @@
-use Rattle.std.proofs.Common.{◌≡◌, true, replicate, Ok, ap, ◌∙◌}
-use Rattle.ledger.specs.declared.runs.Call.TheVariants as call
+use Rattle.std.proofs.Common.{◌≡◌, Ok, ap, ◌∙◌}
 use Rattle.ledger.specs.declared.runs.Answer.TheVariants as answer
 use Rattle.ledger.specs.Book.{coins_of, held_by}
 use Rattle.ledger.specs.Pages.{from_book}

@@ -1,4 +1,4 @@
-use Rattle.std.proofs.Common.{◌≡◌, sym, refl, ap, ◌∙◌}
+use Rattle.std.proofs.Common.{refl, ◌∙◌}
 use Rattle.replay.proofs.Turning.{connect_turn}
 use Rattle.replay.proofs.answer.connect_next.Goals as goal
 

@@ -1,5 +1,4 @@
-use Rattle.std.proofs.Common.{◌≡◌, true, replicate, Ok, ap, ◌∙◌}
-use Rattle.ledger.specs.declared.runs.Call.TheVariants as call
+use Rattle.std.proofs.Common.{◌≡◌, ap, ◌∙◌}
 use Rattle.ledger.specs.declared.runs.Answer.TheVariants as answer
 use Rattle.ledger.specs.Pages.{start_on}
 use Rattle.replay.specs.Answers.{start_line}

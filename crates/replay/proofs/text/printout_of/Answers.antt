@@ -1,7 +1,7 @@
-use Rattle.std.proofs.Common.{◌≡◌, sym, refl, ap, ◌∙◌, subst, arith}
+use Rattle.std.proofs.Common.{sym, ◌∙◌, subst, arith}
 use Rattle.replay.specs.PageTurns.{RunsOn, script_calls}
 use Rattle.replay.proofs.Collected.{none_yet, one_more, all_done}
-use Rattle.replay.proofs.Turning.{begin, go_on, end, refused}
+use Rattle.replay.proofs.Turning.{begin, go_on, end}
 use Rattle.replay.proofs.text.printout_of.Goals as goal
 
 pub loop-line-init : goal.loop-line-init
@@ -22,7 +22,7 @@ loop-line-preserved g c =
     let e = c.in-Some.ensures in
     let one = e.turn in
     let t = e.page in
-    let more = c.in_ok-append-2.ensures in (
+    let more = c.in_ok-append.ensures in (
       e.ok,
       inv.1,
       e.file ∙ inv.2,
