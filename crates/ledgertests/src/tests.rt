@@ -8,16 +8,24 @@ use crate::state::state_of;
 use coinsview::view::CoinsView;
 use ledger::Ledger;
 use std::alloc::Global;
-use std::process::Abort;
+use std::fmt::Display;
 use std::test::Fail;
 use views::condition::SpendCondition;
 
-// Makes one call.
+// A test's failure, with what was looked at, where it does not hold.
+fn check<D: Display + Drop>(holds: bool, what: D) -> Result<(), Fail> {
+    if holds {
+        return Ok(());
+    }
+    Err(Fail::new(what))
+}
+
+// Makes one call, of the given line of a list.
 fn call_agrees<V: CoinsView, C: SpendCondition>(
-    rt: &impl Abort,
     heap: Global,
     ledger: &mut Ledger<V, C>,
     blocks: &[Vec<u8>],
+    number: u64,
     call: Call,
     answer: Answer,
 ) -> Result<(), Fail>
@@ -25,16 +33,22 @@ fn call_agrees<V: CoinsView, C: SpendCondition>(
     ensures { V.CoinsView.ok ledger.new.view }
 {
     let before = state_of(heap, ledger)?;
-    assert_eq!(rt; perform(ledger, blocks, call), answer);
+    let found = perform(ledger, blocks, call);
+    check(
+        found == answer,
+        format_args!("line {number}: {found:?}, and not {answer:?}"),
+    )?;
     if !changes(call, answer) {
-        assert!(rt; before.same(&state_of(heap, ledger)?), "changed");
+        check(
+            before.same(&state_of(heap, ledger)?),
+            format_args!("line {number}: changed"),
+        )?;
     }
     Ok(())
 }
 
 // Makes the calls of a list in order.
 fn agrees<V: CoinsView, C: SpendCondition>(
-    rt: &impl Abort,
     heap: Global,
     ledger: &mut Ledger<V, C>,
     blocks: &[Vec<u8>],
@@ -46,7 +60,7 @@ fn agrees<V: CoinsView, C: SpendCondition>(
     let mut number = 0u64;
     for line in list {
         number = number.saturating_add(1);
-        call_agrees(rt, heap, ledger, blocks, line.0, line.1).note(format_args!("line {number}"))?;
+        call_agrees(heap, ledger, blocks, number, line.0, line.1)?;
     }
     Ok(())
 }

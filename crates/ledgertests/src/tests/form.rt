@@ -1,5 +1,6 @@
 // Compact sizes into short buffers, blocks and files above the limit, and peeks into block files.
 use crate::block::{coinbase_block, id, to_seven, write_record};
+use crate::tests::check;
 use blockform::fault::short_buffer;
 use blockform::file::FileReader;
 use coins::coin::{Coin, Lock};
@@ -10,7 +11,6 @@ use compact::{ShortBuffer, write_size};
 use ledger::Ledger;
 use refusal::{Layer, Refusal};
 use std::alloc::{AllocError, Global};
-use std::process::Abort;
 use std::test::Fail;
 use views::condition::Badge;
 
@@ -36,14 +36,20 @@ fn untouched(buffer: &[u8], filled: usize) -> bool {
 }
 
 // Writes into a buffer of each size up to 12 bytes.
-fn writes_or_refuses(rt: &impl Abort, heap: Global, n: u64, needed: usize) -> Result<(), Fail> {
+fn writes_or_refuses(heap: Global, n: u64, needed: usize) -> Result<(), Fail> {
     for room in 0..13usize {
         let mut buffer = vec![in heap; 170u8; room]?;
         let answer = write_size(buffer.as_mut_slice(), n);
         if room < needed {
-            assert!(rt; answer == Err(ShortBuffer) && untouched(buffer.as_slice(), 0));
+            check(
+                answer == Err(ShortBuffer) && untouched(buffer.as_slice(), 0),
+                format_args!("size {n} in {room} bytes"),
+            )?;
         } else {
-            assert!(rt; answer == Ok(needed) && untouched(buffer.as_slice(), needed));
+            check(
+                answer == Ok(needed) && untouched(buffer.as_slice(), needed),
+                format_args!("size {n} in {room} bytes"),
+            )?;
         }
     }
     Ok(())
@@ -52,23 +58,16 @@ fn writes_or_refuses(rt: &impl Abort, heap: Global, n: u64, needed: usize) -> Re
 #[test]
 fn short_buffers(rt: HostRuntime) -> Result<(), Fail> {
     for size in &SIZES {
-        writes_or_refuses(&rt, rt.alloc(), size.0, size.1).note(format_args!("size {}", size.0))?;
+        writes_or_refuses(rt.alloc(), size.0, size.1)?;
     }
-    check_said(&rt, ShortBuffer.refusal(), 9, Layer::Form, 0)?;
-    check_said(&rt, short_buffer(), 9, Layer::Form, 0)
+    check_said(ShortBuffer.refusal(), 9, Layer::Form, 0)?;
+    check_said(short_buffer(), 9, Layer::Form, 0)
 }
 
-fn check_said(
-    rt: &impl Abort,
-    refusal: Refusal,
-    number: u8,
-    layer: Layer,
-    first: u64,
-) -> Result<(), Fail> {
-    assert!(rt; refusal.reason.number() == number, "number");
-    assert!(rt; refusal.reason.layer() == layer, "layer");
-    assert!(rt; refusal.first == first && refusal.second == 0, "place");
-    Ok(())
+fn check_said(refusal: Refusal, number: u8, layer: Layer, first: u64) -> Result<(), Fail> {
+    check(refusal.reason.number() == number, "number")?;
+    check(refusal.reason.layer() == layer, "layer")?;
+    check(refusal.first == first && refusal.second == 0, "place")
 }
 
 const CELL: (Outpoint, Coin) = (
@@ -88,10 +87,10 @@ const CELL: (Outpoint, Coin) = (
 );
 
 // Connects that many zero bytes, of which 65 are a block.
-fn connect_zeros(rt: &impl Abort, heap: Global, count: usize) -> Result<Refusal, Fail> {
+fn connect_zeros(heap: Global, count: usize) -> Result<Refusal, Fail> {
     let mut cells = [CELL; 2];
     let mut ledger = Ledger::new(FlatTable::new(&mut cells), Badge);
-    assert!(rt; ledger.start(1, 1, 1, &id(0)).is_ok());
+    check(ledger.start(1, 1, 1, &id(0)).is_ok(), "start")?;
     let zeros = vec![in heap; 0u8; count]?;
     match ledger.connect(zeros.as_slice()) {
         Ok(_) => Err(Fail::new("connected")),
@@ -102,12 +101,12 @@ fn connect_zeros(rt: &impl Abort, heap: Global, count: usize) -> Result<Refusal,
 #[test]
 fn above_the_limit(rt: HostRuntime) -> Result<(), Fail> {
     let heap = rt.alloc();
-    check_said(&rt, connect_zeros(&rt, heap, 65_537)?, 5, Layer::Form, 0)?;
-    check_said(&rt, connect_zeros(&rt, heap, 65_536)?, 4, Layer::Form, 65)?;
+    check_said(connect_zeros(heap, 65_537)?, 5, Layer::Form, 0)?;
+    check_said(connect_zeros(heap, 65_536)?, 4, Layer::Form, 65)?;
     let zeros = vec![in heap; 0u8; 65_537]?;
     match FileReader::new(zeros.as_slice()) {
         Ok(_) => Err(Fail::new("read")),
-        Err(fault) => check_said(&rt, fault.refusal(), 5, Layer::File, 0),
+        Err(fault) => check_said(fault.refusal(), 5, Layer::File, 0),
     }
 }
 
@@ -123,13 +122,13 @@ fn peeked(reader: &mut FileReader<'_>) -> (u8, u64, u64) {
 }
 
 // Peeks twice at each record, and moves past it.
-fn peeks_agree(rt: &impl Abort, file: &[u8], answers: &[(u8, u64, u64)]) -> Result<(), Fail> {
+fn peeks_agree(name: &str, file: &[u8], answers: &[(u8, u64, u64)]) -> Result<(), Fail> {
     let mut reader = FileReader::new(file)?;
     for answer in answers {
         let place = reader.place();
-        assert_eq!(rt; peeked(&mut reader), *answer);
-        assert_eq!(rt; peeked(&mut reader), *answer);
-        assert!(rt; reader.place() == place);
+        check(peeked(&mut reader) == *answer, name)?;
+        check(peeked(&mut reader) == *answer, name)?;
+        check(reader.place() == place, name)?;
         let _ = reader.next();
     }
     Ok(())
@@ -175,10 +174,10 @@ const FIVE_THEN_CUT: [(u8, u64, u64); 7] = [
 fn peeking(rt: HostRuntime) -> Result<(), Fail> {
     let heap = rt.alloc();
     let mut file = five_records(heap)?;
-    peeks_agree(&rt, file.as_slice(), &FIVE_THEN_ENDED).note("whole")?;
+    peeks_agree("whole", file.as_slice(), &FIVE_THEN_ENDED)?;
     file.extend_from_slice(&[9, 0, 0])?;
-    peeks_agree(&rt, file.as_slice(), &FIVE_THEN_CUT).note("cut in the length")?;
+    peeks_agree("cut in the length", file.as_slice(), &FIVE_THEN_CUT)?;
     file.extend_from_slice(&[0, 1, 2, 3])?;
-    peeks_agree(&rt, file.as_slice(), &FIVE_THEN_CUT).note("cut in the block")?;
-    peeks_agree(&rt, &[], &[(8, 0, 0)]).note("empty")
+    peeks_agree("cut in the block", file.as_slice(), &FIVE_THEN_CUT)?;
+    peeks_agree("empty", &[], &[(8, 0, 0)])
 }

@@ -1,11 +1,11 @@
 // The lists over a flat table, a quota, and caches over them.
 use crate::calls::{Answer, Call};
 use crate::state::{stand_first, state_of};
-use crate::tests::agrees;
 use crate::tests::lists::{
     CROWDING, FILLING, OVER_COINS, READING, SETTLING, STARTING, UNFLUSHED, mixed_blocks,
     plain_blocks, tight_blocks, wide_blocks,
 };
+use crate::tests::{agrees, check};
 use cache::cache::Cache;
 use coins::coin::{Coin, Lock};
 use coins::outpoint::Outpoint;
@@ -14,7 +14,6 @@ use coinsview::table::FlatTable;
 use coinsview::view::CoinsView;
 use ledger::Ledger;
 use std::alloc::Global;
-use std::process::Abort;
 use std::test::Fail;
 use views::condition::Badge;
 use views::pile::{cached_quota, cached_table};
@@ -36,31 +35,26 @@ const CELL: (Outpoint, Coin) = (
 );
 
 // Makes the calls of a list on a new ledger over a cache on a table.
-fn cache_agrees(
-    rt: &impl Abort,
-    heap: Global,
-    blocks: &[Vec<u8>],
-    list: &[(Call, Answer)],
-) -> Result<(), Fail> {
+fn cache_agrees(heap: Global, blocks: &[Vec<u8>], list: &[(Call, Answer)]) -> Result<(), Fail> {
     let mut cells = [CELL; 512];
     let mut ledger = Ledger::new(cached_table(heap, &mut cells)?, Badge);
-    agrees(rt, heap, &mut ledger, blocks, list)
+    agrees(heap, &mut ledger, blocks, list)
 }
 
 #[test]
 fn starting(rt: HostRuntime) -> Result<(), Fail> {
-    cache_agrees(&rt, rt.alloc(), &plain_blocks(rt.alloc())?, &STARTING)
+    cache_agrees(rt.alloc(), &plain_blocks(rt.alloc())?, &STARTING)
 }
 
 #[test]
 fn settling(rt: HostRuntime) -> Result<(), Fail> {
-    cache_agrees(&rt, rt.alloc(), &plain_blocks(rt.alloc())?, &SETTLING)?;
-    cache_agrees(&rt, rt.alloc(), &wide_blocks(rt.alloc())?, &CROWDING)
+    cache_agrees(rt.alloc(), &plain_blocks(rt.alloc())?, &SETTLING)?;
+    cache_agrees(rt.alloc(), &wide_blocks(rt.alloc())?, &CROWDING)
 }
 
 #[test]
 fn reading(rt: HostRuntime) -> Result<(), Fail> {
-    cache_agrees(&rt, rt.alloc(), &mixed_blocks(rt.alloc())?, &READING)
+    cache_agrees(rt.alloc(), &mixed_blocks(rt.alloc())?, &READING)
 }
 
 #[test]
@@ -70,7 +64,7 @@ fn start_over_coins(rt: HostRuntime) -> Result<(), Fail> {
     let mut table = FlatTable::new(&mut cells);
     assert!(rt; table.put(CELL.0, CELL.1).is_ok());
     let mut ledger = Ledger::new(table, Badge);
-    agrees(&rt, heap, &mut ledger, &plain_blocks(heap)?, &OVER_COINS)
+    agrees(heap, &mut ledger, &plain_blocks(heap)?, &OVER_COINS)
 }
 
 #[test]
@@ -78,7 +72,7 @@ fn filling_a_table(rt: HostRuntime) -> Result<(), Fail> {
     let heap = rt.alloc();
     let mut cells = [CELL; 3];
     let mut ledger = Ledger::new(FlatTable::new(&mut cells), Badge);
-    agrees(&rt, heap, &mut ledger, &tight_blocks(heap)?, &FILLING)
+    agrees(heap, &mut ledger, &tight_blocks(heap)?, &FILLING)
 }
 
 #[test]
@@ -86,20 +80,19 @@ fn filling_a_quota(rt: HostRuntime) -> Result<(), Fail> {
     let heap = rt.alloc();
     let mut cells = [CELL; 8];
     let mut ledger = Ledger::new(cached_quota(heap, &mut cells, 3)?, Badge);
-    agrees(&rt, heap, &mut ledger, &tight_blocks(heap)?, &FILLING)
+    agrees(heap, &mut ledger, &tight_blocks(heap)?, &FILLING)
 }
 
 // Makes the calls over a cache on a table in the cells, with a flush at the end or without, and answers the coins.
 fn coins_after(
-    rt: &impl Abort,
     heap: Global,
     cells: &mut [(Outpoint, Coin)],
     flush: bool,
 ) -> Result<Vec<(Outpoint, Coin)>, Fail> {
     let mut ledger = Ledger::new(cached_table(heap, cells)?, Badge);
-    agrees(rt, heap, &mut ledger, &mixed_blocks(heap)?, &UNFLUSHED)?;
+    agrees(heap, &mut ledger, &mixed_blocks(heap)?, &UNFLUSHED)?;
     if flush {
-        assert!(rt; ledger.flush().is_ok());
+        check(ledger.flush().is_ok(), "flush")?;
     }
     Ok(state_of(heap, &mut ledger)?.coins)
 }
@@ -109,10 +102,10 @@ fn coins_after(
 fn flushing(rt: HostRuntime) -> Result<(), Fail> {
     let heap = rt.alloc();
     let mut cells = [CELL; 8];
-    let coins = coins_after(&rt, heap, &mut cells, false)?;
+    let coins = coins_after(heap, &mut cells, false)?;
     assert!(rt; coins.len() == 3);
     assert!(rt; !stand_first(&cells, coins.as_slice()));
-    let coins = coins_after(&rt, heap, &mut cells, true)?;
+    let coins = coins_after(heap, &mut cells, true)?;
     assert!(rt; coins.len() == 3);
     assert!(rt; stand_first(&cells, coins.as_slice()));
     Ok(())
