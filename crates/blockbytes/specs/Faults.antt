@@ -11,8 +11,8 @@ abbrev pub at_offset : Reason → ℕ → Refusal
 at_offset why at = record { reason = why; first = at; second = 0 }
 
 abbrev pub form_refusal : FormFault → Refusal
-form_refusal (Cut at) = at_offset reason.Cut at
-form_refusal (LongForm at) = at_offset reason.LongForm at
-form_refusal (OverCount at) = at_offset reason.OverCount at
-form_refusal (Tail at) = at_offset reason.Tail at
-form_refusal OverSize = at_offset reason.OverSize 0
+form_refusal (Cut at) = record { reason = reason.Cut; first = at; second = 0 }
+form_refusal (LongForm at) = record { reason = reason.LongForm; first = at; second = 0 }
+form_refusal (OverCount at) = record { reason = reason.OverCount; first = at; second = 0 }
+form_refusal (Tail at) = record { reason = reason.Tail; first = at; second = 0 }
+form_refusal OverSize = record { reason = reason.OverSize; first = 0; second = 0 }

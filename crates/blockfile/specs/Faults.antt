@@ -1,16 +1,16 @@
 -- The refusal that each fault of a block file and of a peek is.
 use Rattle.refusal.specs.declared.Refusal.{Refusal}
 use Rattle.refusal.specs.declared.Reason.TheVariants as reason
-use Rattle.blockbytes.specs.Faults.{at_offset, form_refusal}
+use Rattle.blockbytes.specs.Faults.{form_refusal}
 use Rattle.blockfile.specs.declared.fault.FileFault.{FileFault}
 use Rattle.blockfile.specs.declared.fault.FileFault.TheVariants.{OverSize, Cut, Ended}
 use Rattle.blockfile.specs.declared.fault.PeekFault.{PeekFault}
 use Rattle.blockfile.specs.declared.fault.PeekFault.TheVariants.{File, Form}
 
 abbrev pub file_refusal : FileFault → Refusal
-file_refusal OverSize = at_offset reason.FileOverSize 0
-file_refusal (Cut at) = at_offset reason.FileCut at
-file_refusal Ended = at_offset reason.Ended 0
+file_refusal OverSize = record { reason = reason.FileOverSize; first = 0; second = 0 }
+file_refusal (Cut at) = record { reason = reason.FileCut; first = at; second = 0 }
+file_refusal Ended = record { reason = reason.Ended; first = 0; second = 0 }
 
 abbrev pub peek_refusal : PeekFault → Refusal
 peek_refusal (File f) = file_refusal f

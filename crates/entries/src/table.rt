@@ -84,7 +84,8 @@ pub struct EntryTable {
 impl EntryTable {
     // No entries, and memory for 64, or no memory. Nothing else of a view asks for memory.
     pub fn new(heap: Global) -> Result<EntryTable, AllocError>
-        ensures { IfOk result Ready }
+        ensures empty { IfOk result (λ t. (t.entries.items ≡ []) × (64 ≤ vec_capacity t.entries)) }
+        ensures ready { IfOk result Ready }
     {
         let entries = Vec::with_capacity(heap, MOST_ENTRIES)?;
         Ok(EntryTable { entries })
