@@ -1,5 +1,5 @@
 -- What is read writes the bytes that were read, and what is written is read.
-use Rattle.std.proofs.Common.{◌≡◌, ℕ, zero, suc, ◌+◌, ◌-◌, ◌^◌, ◌<◌, ◌≤◌, Bool, true, false, cond, ltb, List, [], ◌∷◌, ◌++◌, length, get_or, take, drop, is_ok as std_is_ok, Ok, Err, Result, sym, refl, ap, ◌∙◌, subst, append_assoc, append-nil, add-zero, arith, lit<, length-append, length-drop, take-append-drop, drop_of_length-le, length-take-le, get_or-drop, drop-drop, take_at, drop_at, le-ltb}
+use Rattle.std.proofs.Common.{◌≡◌, ℕ, zero, suc, ◌+◌, ◌-◌, ◌^◌, ◌<◌, ◌≤◌, Bool, true, false, cond, ltb, List, [], ◌∷◌, ◌++◌, length, get_or, take, drop, is_ok, Ok, Err, Result, sym, refl, ap, ◌∙◌, subst, append_assoc, append-nil, add-zero, arith, lit<, length-append, length-drop, take-append-drop, drop_of_length-le, length-take-le, get_or-drop, drop-drop, take_at, drop_at, le-ltb}
 use Rattle.std.proofs.lemmas.Bool.Decides.{nat_tests}
 use Rattle.std.proofs.lemmas.List.{drop_more}
 use Rattle.compact.specs.Compact.{le, encode, four_at, eight_at, Bytes}
@@ -10,7 +10,7 @@ use Rattle.blockbytes.specs.Form.{then, times, field, counted, input, output, tr
 use Rattle.blockbytes.specs.Value.{InputValue, OutputValue, TransactionValue, BlockValue, encode_all, encode_list, encode_input, encode_output, encode_transaction, encode_block, All, Few, InputWithin, OutputWithin, TransactionWithin, BlockWithin}
 use Rattle.blockbytes.specs.Places.{list_at, end_of, counted_at, counted_end, id_at, input_at, input_end, output_at, output_end, inputs_end, transaction_at, transaction_end, block_at, read_block}
 use Rattle.blockbytes.specs.Laws.{Accepted, ReadIsEncoded, EncodedIsRead, OneBlock}
-use Rattle.blockbytes.proofs.Steps.{ok_of, is_ok, times_first, chosen, field_ok, then_ok, ok_same, field_yes, count_yes, input_ok, input_yes, output_ok, output_yes, Ends, transaction_ends, counted_ok, input_ends, output_ends, length_list}
+use Rattle.blockbytes.proofs.Steps.{ok_of, ok_is, times_first, chosen, field_ok, then_ok, ok_same, field_yes, count_yes, input_ok, input_yes, output_ok, output_yes, Ends, transaction_ends, counted_ok, input_ends, output_ends, length_list}
 
 -- parts one after another
 join : {x y : List ℕ} (a c z : List ℕ) → x ≡ a ++ y → y ≡ c ++ z → x ≡ (a ++ c) ++ z
@@ -327,7 +327,7 @@ refused b e h v a =
     omega arith
 
 -- how many bytes each takes
-pub input_long : (b : List ℕ) (at : ℕ) → std_is_ok (input b at) ≡ true → input_end b at ≡ at + length (encode_input (input_at b at))
+pub input_long : (b : List ℕ) (at : ℕ) → is_ok (input b at) ≡ true → input_end b at ≡ at + length (encode_input (input_at b at))
 input_long b at h =
     let q = ok_of (input b at) h in
     let o = input_ok b at q.0 q.1 in
@@ -344,11 +344,11 @@ pub output_long : (b : List ℕ) (at : ℕ) → output_end at ≡ at + length (e
 output_long b at = simp length-append (omega (arith, length_le 8 (eight_at b at), length_le 8 (eight_at b (at + 9))))
 
 -- the same of n values
-pub all_long : {X : Type 0} (step : ℕ → Result ℕ FormFault) (value : ℕ → X) (end : ℕ → ℕ) (enc : X → List ℕ) → Ends step end → ((at : ℕ) → std_is_ok (step at) ≡ true → end at ≡ at + length (enc (value at))) → (n at : ℕ) → std_is_ok (times n step at) ≡ true → end_of n end at ≡ at + length (encode_all enc (list_at n value end at))
+pub all_long : {X : Type 0} (step : ℕ → Result ℕ FormFault) (value : ℕ → X) (end : ℕ → ℕ) (enc : X → List ℕ) → Ends step end → ((at : ℕ) → is_ok (step at) ≡ true → end at ≡ at + length (enc (value at))) → (n at : ℕ) → is_ok (times n step at) ≡ true → end_of n end at ≡ at + length (encode_all enc (list_at n value end at))
 all_long step value end enc d k zero at h = omega arith
 all_long step value end enc d k (suc n) at h =
     let f = times_first step end d (suc n) at (omega arith) h in
     let m : suc n - 1 ≡ n = omega arith in
-    let r = all_long step value end enc d k n (end at) (ap (λ j. std_is_ok (times j step (end at))) (sym m) ∙ f.1) in
-    let e = k at (is_ok (step at) (end at) f.0) in
+    let r = all_long step value end enc d k n (end at) (ap (λ j. is_ok (times j step (end at))) (sym m) ∙ f.1) in
+    let e = k at (ok_is (step at) (end at) f.0) in
     simp length-append (omega arith)

@@ -1,5 +1,5 @@
 -- The steps of the form: what a step says where it succeeds, and when it does.
-use Rattle.std.proofs.Common.{◌≡◌, ℕ, zero, suc, ◌+◌, ◌-◌, ◌*◌, ◌<◌, ◌≤◌, Bool, true, false, cond, ltb, List, [], ◌∷◌, map, length, get_or, drop, is_ok as std_is_ok, Ok, Err, Result, sym, refl, ap, ◌∙◌, subst, arith, lit<, length-drop, drop_of_length-le, drop-cons, le-ltb, lt-ltb}
+use Rattle.std.proofs.Common.{◌≡◌, ℕ, zero, suc, ◌+◌, ◌-◌, ◌*◌, ◌<◌, ◌≤◌, Bool, true, false, cond, ltb, List, [], ◌∷◌, map, length, get_or, drop, is_ok, Ok, Err, Result, sym, refl, ap, ◌∙◌, subst, arith, lit<, length-drop, drop_of_length-le, drop-cons, le-ltb, lt-ltb}
 use Rattle.std.proofs.lemmas.Bool.Decides.{nat_tests}
 use Rattle.compact.specs.Compact.{read_size}
 use Rattle.compact.specs.declared.SizeFault.{SizeFault}
@@ -18,12 +18,12 @@ next step n i at h =
     ap (λ k. times k step at) e
 
 -- what succeeds has an answer
-pub ok_of : {X : Type 0} (r : Result X FormFault) → std_is_ok r ≡ true → (x : X) × (r ≡ Ok x)
+pub ok_of : {X : Type 0} (r : Result X FormFault) → is_ok r ≡ true → (x : X) × (r ≡ Ok x)
 ok_of (Ok x) h = (x, refl)
 ok_of (Err e) h = absurd (grind arith)
 
-pub is_ok : {X : Type 0} (r : Result X FormFault) (x : X) → r ≡ Ok x → std_is_ok r ≡ true
-is_ok r x h = ap std_is_ok h
+pub ok_is : {X : Type 0} (r : Result X FormFault) (x : X) → r ≡ Ok x → is_ok r ≡ true
+ok_is r x h = ap is_ok h
 
 -- where two steps succeed, so do both
 pub then_ok : {X Y : Type 0} (r : Result X FormFault) (f : X → Result Y FormFault) (y : Y) → then r f ≡ Ok y → (x : X) × (r ≡ Ok x) × (f x ≡ Ok y)
@@ -166,14 +166,14 @@ times_end step end d (suc n) at e h =
     times_end step end d n p.0 e p.2 ∙ ap (λ i. end_of n end i) (d at p.0 p.1)
 
 -- the first of n steps, and those after it
-pub times_first : (step : ℕ → Result ℕ FormFault) (end : ℕ → ℕ) → Ends step end → (n at : ℕ) → 0 < n → std_is_ok (times n step at) ≡ true → (step at ≡ Ok (end at)) × (std_is_ok (times (n - 1) step (end at)) ≡ true)
+pub times_first : (step : ℕ → Result ℕ FormFault) (end : ℕ → ℕ) → Ends step end → (n at : ℕ) → 0 < n → is_ok (times n step at) ≡ true → (step at ≡ Ok (end at)) × (is_ok (times (n - 1) step (end at)) ≡ true)
 times_first step end d zero at l h = absurd (omega arith)
 times_first step end d (suc n) at l h =
     let q = ok_of (then (step at) (λ i. times n step i)) h in
     let p = then_ok (step at) (λ i. times n step i) q.0 q.1 in
     let e = d at p.0 p.1 in
     let m : suc n - 1 ≡ n = omega arith in
-    (p.1 ∙ ap Ok e, ap (λ k. std_is_ok (times k step (end at))) m ∙ ap (λ i. std_is_ok (times n step i)) (sym e) ∙ is_ok (times n step p.0) q.0 p.2)
+    (p.1 ∙ ap Ok e, ap (λ k. is_ok (times k step (end at))) m ∙ ap (λ i. is_ok (times n step i)) (sym e) ∙ ok_is (times n step p.0) q.0 p.2)
 
 pub list_first : {X : Type 0} (value : ℕ → X) (end : ℕ → ℕ) (n at : ℕ) → 0 < n → list_at n value end at ≡ value at ∷ list_at (n - 1) value end (end at)
 list_first value end zero at l = absurd (omega arith)
@@ -191,8 +191,8 @@ pub list_taken : {X : Type 0} (value : ℕ → X) (end : ℕ → ℕ) (n at : �
 list_taken value end n at x e l p q =
     list_first value end n at l ∙ ap (λ y. y ∷ list_at (n - 1) value end (end at)) (sym p) ∙ ap (λ k. x ∷ list_at (n - 1) value end k) (sym q)
 
-pub times_taken : (step : ℕ → Result ℕ FormFault) (end : ℕ → ℕ) → Ends step end → (n at e : ℕ) → 0 < n → e ≡ end at → std_is_ok (times n step at) ≡ true → std_is_ok (times (n - 1) step e) ≡ true
-times_taken step end d n at e l q h = ap (λ k. std_is_ok (times (n - 1) step k)) q ∙ (times_first step end d n at l h).1
+pub times_taken : (step : ℕ → Result ℕ FormFault) (end : ℕ → ℕ) → Ends step end → (n at e : ℕ) → 0 < n → e ≡ end at → is_ok (times n step at) ≡ true → is_ok (times (n - 1) step e) ≡ true
+times_taken step end d n at e l q h = ap (λ k. is_ok (times (n - 1) step k)) q ∙ (times_first step end d n at l h).1
 
 pub length_list : {X : Type 0} (value : ℕ → X) (end : ℕ → ℕ) (n at : ℕ) → length (list_at n value end at) ≡ n
 length_list value end zero at = refl
@@ -273,15 +273,15 @@ outputs_inside b (suc n) at e l h =
 pub record Found (b : List ℕ) (n at : ℕ) : Type 0 where
   pub id : at + 32 < length b
   pub few_in : get_or b (at + 32) 0 ≤ 64
-  pub ins : std_is_ok (times (get_or b (at + 32) 0) (input b) (at + 32 + 1)) ≡ true
+  pub ins : is_ok (times (get_or b (at + 32) 0) (input b) (at + 32 + 1)) ≡ true
   pub mid : inputs_end b at < length b
   pub few_out : get_or b (inputs_end b at) 0 ≤ 64
-  pub outs : std_is_ok (times (get_or b (inputs_end b at) 0) (output b) (inputs_end b at + 1)) ≡ true
+  pub outs : is_ok (times (get_or b (inputs_end b at) 0) (output b) (inputs_end b at + 1)) ≡ true
   pub end : transaction_end b at ≡ inputs_end b at + 1 + 17 * get_or b (inputs_end b at) 0
   pub inside : inputs_end b at + 1 + 17 * get_or b (inputs_end b at) 0 ≤ length b
-  pub rest : std_is_ok (times (n - 1) (transaction b) (transaction_end b at)) ≡ true
+  pub rest : is_ok (times (n - 1) (transaction b) (transaction_end b at)) ≡ true
 
-pub found : (b : List ℕ) (n at : ℕ) → 0 < n → std_is_ok (times n (transaction b) at) ≡ true → Found b n at
+pub found : (b : List ℕ) (n at : ℕ) → 0 < n → is_ok (times n (transaction b) at) ≡ true → Found b n at
 found b n at l h =
     let f = times_first (transaction b) (transaction_end b) (transaction_ends b) n at l h in
     let t = transaction_ok b at (transaction_end b at) f.0 in
@@ -291,24 +291,24 @@ found b n at l h =
     record {
       id = t.ins.inside;
       few_in = t.ins.few;
-      ins = is_ok _ _ t.ins.steps;
+      ins = ok_is _ _ t.ins.steps;
       mid = t.outs.inside;
       few_out = t.outs.few;
-      outs = is_ok _ _ t.outs.steps;
+      outs = ok_is _ _ t.outs.steps;
       end = e;
       inside = omega arith;
       rest = f.1;
     }
 
 -- the next of some inputs that can be read, in a loop that has passed i of n
-pub input_next : (b : List ℕ) (n i at : ℕ) → i < n → std_is_ok (times (n - i) (input b) at) ≡ true → InputOk b at (input_end b at)
+pub input_next : (b : List ℕ) (n i at : ℕ) → i < n → is_ok (times (n - i) (input b) at) ≡ true → InputOk b at (input_end b at)
 input_next b n i at l h =
     input_ok b at (input_end b at) (times_first (input b) (input_end b) (input_ends b) (n - i) at (omega arith) h).0
 
-pub inputs_again : (b : List ℕ) (n i at from : ℕ) → i < n → std_is_ok (times (n - i) (input b) at) ≡ true → end_of (n - i) (input_end b) at ≡ end_of n (input_end b) from → (std_is_ok (times (n - (i + 1)) (input b) (input_end b at)) ≡ true) × (end_of (n - (i + 1)) (input_end b) (input_end b at) ≡ end_of n (input_end b) from)
+pub inputs_again : (b : List ℕ) (n i at from : ℕ) → i < n → is_ok (times (n - i) (input b) at) ≡ true → end_of (n - i) (input_end b) at ≡ end_of n (input_end b) from → (is_ok (times (n - (i + 1)) (input b) (input_end b at)) ≡ true) × (end_of (n - (i + 1)) (input_end b) (input_end b at) ≡ end_of n (input_end b) from)
 inputs_again b n i at from l h e =
     let m : n - (i + 1) ≡ n - i - 1 = omega arith in (
-      ap (λ k. std_is_ok (times k (input b) (input_end b at))) m ∙ (times_first (input b) (input_end b) (input_ends b) (n - i) at (omega arith) h).1,
+      ap (λ k. is_ok (times k (input b) (input_end b at))) m ∙ (times_first (input b) (input_end b) (input_ends b) (n - i) at (omega arith) h).1,
       ap (λ k. end_of k (input_end b) (input_end b at)) m ∙ sym (ends_first (input_end b) (n - i) at (omega arith)) ∙ e,
     )
 

@@ -7,5 +7,5 @@ pub mod reader;
 
 pub use blockbytes::block_encoding;
 
-// The greatest size of a block.
+// The greatest size of a block, and of a block file.
 pub const MAX_BLOCK: usize = 65_536;

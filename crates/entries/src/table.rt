@@ -5,13 +5,13 @@ ghost use denote.Struct.Tuple.{Tuple};
 ghost use Rattle.std.specs.Vec.{with_item};
 ghost use Rattle.std.specs.List.{slice_get};
 ghost use Rattle.std.specs.Option.{option_map};
-ghost use Rattle.coins.specs.contracts.outpoint.Outpoint.{the_row as outpoint-row};
+ghost use Rattle.coins.specs.contracts.outpoint.Outpoint.{the_row as outpoint_row};
 ghost use Rattle.maps.specs.Maps.{Sorted, next_of};
 ghost use Rattle.maps.specs.Keyed.{outpoints};
 ghost use Rattle.maps.specs.Search.{Found};
 ghost use Rattle.entries.specs.Entries.{Ready, with_entry, without_entry, clean, created, replaced, spent};
 ghost use Rattle.entries.specs.contracts.table.Entry.{the_row as entry_row};
-ghost use Rattle.entries.specs.contracts.table.EntryTable.{the_row as table-row};
+ghost use Rattle.entries.specs.contracts.table.EntryTable.{the_row as table_row};
 
 use coins::coin::Coin;
 use coins::outpoint::Outpoint;
@@ -144,7 +144,7 @@ impl EntryTable {
     // The entry at i, lent.
     fn lend(&mut self, i: usize) -> &mut (Outpoint, Entry)
         requires { i < vec_len self.old.entries }
-        ensures* follows { sem 𝓛 (follows table-row (Tuple (outpoint-row ∷ entry_row ∷ [])) self.entry.ghost_name result.ghost_name (λ w. record { entries = with_item self.old.entries i w })) }
+        ensures* follows { sem 𝓛 (follows table_row (Tuple (outpoint_row ∷ entry_row ∷ [])) self.entry.ghost_name result.ghost_name (λ w. record { entries = with_item self.old.entries i w })) }
         ensures value { result.now ≡ slice_index_or self.old.entries.items i result.now }
     {
         &mut self.entries[i]

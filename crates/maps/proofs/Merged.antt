@@ -58,8 +58,8 @@ module _ {K V : Type 0} (o : Order K) where
   next_none None (x ∷ m) s h q b = absurd (let z : ◌≡◌ {A = ℕ} 0 1 = cc in omega arith)
   next_none (Some k) m s h q b = after_none k m s h q b
 
-  pub is_none : (from : Option K) (m : List (K × V)) → Sorted o m → ((q : K) → Beyond o from q → look o q m ≡ None) → next_of o from m ≡ None
-  is_none from m s h = go (next_of o from m) refl
+  pub none_is : (from : Option K) (m : List (K × V)) → Sorted o m → ((q : K) → Beyond o from q → look o q m ≡ None) → next_of o from m ≡ None
+  none_is from m s h = go (next_of o from m) refl
     where
       go : (r : Option (K × V)) → next_of o from m ≡ r → r ≡ None
       go None e = refl
@@ -116,7 +116,7 @@ further o (Some f) p q a l = o.trans f p q a l
 module _ {K V W : Type 0} (o : Order K) (k : Marks V W) (from : Option K) (es : List (K × W)) (m : List (K × V)) (t : Sorted o es) (s : Sorted o m) where
   -- no entry up to the next pair below
   pub next_below : (b : Option (K × V)) → next_of o from m ≡ b → ((q : K) → Beyond o from q → look o q es ≡ None) → next_of o from (laid o k es m) ≡ b
-  next_below None h n = is_none o from _ (sorted_laid o k es m s) (λ q z. look_laid o k q es m t s ∙ (let a = n q z in let b = next_none o from m s h q z in cc))
+  next_below None h n = none_is o from _ (sorted_laid o k es m s) (λ q z. look_laid o k q es m t s ∙ (let a = n q z in let b = next_none o from m s h q z in cc))
   next_below (Some p) h n =
       let a = next_some o from m p s h in
       is_next o from _ p (sorted_laid o k es m s) (record { there = look_laid o k p.0 es m t s ∙ (let z = n p.0 a.above in let y = a.there in cc); above = a.above; least = λ q z x. look_laid o k q es m t s ∙ (let u = n q z in let v = a.least q z x in cc) })
@@ -150,7 +150,7 @@ module _ {K V W : Type 0} (o : Order K) (k : Marks V W) (from : Option K) (es : 
       none q z Greater c f = f (let a = o.flip e.0 q in grind arith)
 
       go : (r : Option (K × V)) → next_of o (Some e.0) (laid o k es m) ≡ r → next_of o from (laid o k es m) ≡ r
-      go None h = is_none o from _ sl (λ q z. none q z (o.cmp q e.0) refl (next_none o (Some e.0) _ sl h q))
+      go None h = none_is o from _ sl (λ q z. none q z (o.cmp q e.0) refl (next_none o (Some e.0) _ sl h q))
       go (Some p) h =
           let a = next_some o (Some e.0) _ p sl h in
           is_next o from _ p sl (record { there = a.there; above = further o from e.0 p.0 b.above a.above; least = λ q z x. none q z (o.cmp q e.0) refl (λ w. a.least q w x) })

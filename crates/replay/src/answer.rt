@@ -1,5 +1,5 @@
 // The answer to each line of a script, as a line of the printout.
-ghost use Rattle.std.specs.Prelude.{◌≡◌, [], ◌∷◌, Ok as Granted};
+ghost use Rattle.std.specs.Prelude.{◌≡◌, [], ◌∷◌};
 ghost use Rattle.ledger.specs.Book.{connect_answer, disconnect_answer, coins_of, held_by};
 ghost use Rattle.ledger.specs.Pages.{from_book, start_on};
 ghost use Rattle.ledger.specs.Runs.{part as part_of};
@@ -158,7 +158,7 @@ fn balance<V: CoinsView, C: SpendCondition>(
 ) -> Line
     requires { V.CoinsView.ok ledger.old.view }
     ensures ok { V.CoinsView.ok ledger.new.view }
-    ensures page { PageTurn V.CoinsView C.SpendCondition blocks.now (BalanceCall lock ∷ []) (λ q. balance_line lock (from_book (λ b. Granted (held_by lock (coins_of b))) q)) result ledger.old ledger.new }
+    ensures page { PageTurn V.CoinsView C.SpendCondition blocks.now (BalanceCall lock ∷ []) (λ q. balance_line lock (from_book (λ b. Ok (held_by lock (coins_of b))) q)) result ledger.old ledger.new }
 {
     let call = Call::Balance(lock);
     match ledger.perform(blocks, call) {

@@ -8,7 +8,7 @@ use coins::outpoint::Outpoint;
 use coinsview::fault::ViewFault;
 use coinsview::view::CoinsView;
 
-// What the two takes of `spend_twice` found, and what the put between them answered.
+// What the two takes of `spend_and_answer` found, and what the put between them answered.
 #[derive(Drop)]
 pub struct SpentTwice {
     pub first: Option<Coin>,

@@ -21,7 +21,7 @@ pub fn cached_table(
 ) -> Result<Cache<FlatTable<'_>>, AllocError>
     ensures { IfOk result (Means (cache_view table_view) (min (length cells.old) 4096) [] []) }
 {
-    Ok(cached_table_with(EntryTable::new(heap)?, cells))
+    Cache::new(heap, FlatTable::new(cells))
 }
 
 // The same with the memory for the cache's entries.
@@ -43,8 +43,8 @@ pub fn cached_quota(
 ) -> Result<Cache<Cache<Quota<FlatTable<'_>>>>, AllocError>
     ensures { IfOk result (Means (cache_view (cache_view (quota_view table_view))) (min limit (min (length cells.old) 4096)) [] []) }
 {
-    let low = EntryTable::new(heap)?;
-    Ok(cached_quota_with(low, EntryTable::new(heap)?, cells, limit))
+    let low = Cache::new(heap, Quota::new(FlatTable::new(cells), limit))?;
+    Cache::new(heap, low)
 }
 
 // The same with the memory for the entries of both caches.
@@ -58,8 +58,8 @@ pub fn cached_quota_with(
     requires high { Ready high }
     ensures { Means (cache_view (cache_view (quota_view table_view))) (min limit (min (length cells.old) 4096)) [] [] result }
 {
-    let quota = Quota::new(FlatTable::new(cells), limit);
-    Cache::over(Cache::over(quota, low), high)
+    let table = FlatTable::new(cells);
+    Cache::over(Cache::over(Quota::new(table, limit), low), high)
 }
 
 // A quota over a cache over a flat table.
@@ -70,7 +70,7 @@ pub fn quota_over_cache(
 ) -> Result<Quota<Cache<FlatTable<'_>>>, AllocError>
     ensures { IfOk result (Means (quota_view (cache_view table_view)) (min limit (min (length cells.old) 4096)) [] []) }
 {
-    Ok(quota_over_cache_with(EntryTable::new(heap)?, cells, limit))
+    Ok(Quota::new(cached_table(heap, cells)?, limit))
 }
 
 // The same with the memory for the cache's entries.

@@ -1,6 +1,6 @@
 use Rattle.std.proofs.Common.{refl}
 use Rattle.blockform.specs.Readers.{block_of, transactions_of, next_transaction, BlockGood, TransactionsGood}
-use Rattle.blockbytes.proofs.Steps.{ok_of, is_ok, block_ok}
+use Rattle.blockbytes.proofs.Steps.{ok_of, ok_is, block_ok}
 use Rattle.blockform.proofs.reader.Block.transactions.Goals as goal
 
 pub bounds-self-64 : goal.bounds-self-64
@@ -12,4 +12,4 @@ unfolding BlockGood TransactionsGood block_of transactions_of next_transaction
 returns c =
     let o = ok_of _ c.requires in
     let k = block_ok c.args.self.now.bytes.now o.0 o.1 in
-    record { good = (k.all.few, is_ok _ _ k.all.steps); all = refl; offset = refl }
+    record { good = (k.all.few, ok_is _ _ k.all.steps); all = refl; offset = refl }

@@ -2,7 +2,7 @@ use Rattle.std.proofs.Common.{arith}
 use Rattle.blockbytes.specs.Form.{item}
 use Rattle.blockbytes.specs.Places.{item_at, item_end}
 use Rattle.blockform.specs.Readers.{items_of, next_item, ItemsGood}
-use Rattle.blockbytes.proofs.Steps.{is_ok, times_first, times_taken, list_none, list_taken, item_ends}
+use Rattle.blockbytes.proofs.Steps.{ok_is, times_first, times_taken, list_none, list_taken, item_ends}
 use Rattle.blockform.proofs.reader.Items.next.Goals as goal
 
 pub returns-then-self-eq0 : goal.returns-then-self-eq0
@@ -17,7 +17,7 @@ unfolding ItemsGood
 item-end-requires c =
     let r = c.args.self.now in
     let b = r.block.now in
-    is_ok _ _ (times_first (item r.inputs b) (item_end r.inputs b) (item_ends r.inputs b) r.left r.place (omega arith) c.requires.1).0
+    ok_is _ _ (times_first (item r.inputs b) (item_end r.inputs b) (item_ends r.inputs b) r.left r.place (omega arith) c.requires.1).0
 
 pub returns : goal.returns
 unfolding items_of next_item ItemsGood

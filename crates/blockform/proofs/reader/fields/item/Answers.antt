@@ -1,6 +1,6 @@
-use Rattle.std.proofs.Common.{◌+◌, length, is_ok as std_is_ok, sym, ap, ◌∙◌, subst, arith}
+use Rattle.std.proofs.Common.{◌+◌, length, is_ok, sym, ap, ◌∙◌, subst, arith}
 use Rattle.blockbytes.specs.Form.{item, input, output}
-use Rattle.blockbytes.proofs.Steps.{ok_of, is_ok, input_ok, output_ok}
+use Rattle.blockbytes.proofs.Steps.{ok_of, ok_is, input_ok, output_ok}
 use Rattle.blockbytes.specs.Places.{item_at, item_end}
 use Rattle.blockbytes.specs.Value.{encode_piece, PieceWithin}
 use Rattle.blockbytes.proofs.Encoding.{input_codec, output_codec, input_long, output_long}
@@ -9,13 +9,13 @@ use Rattle.blockform.proofs.reader.fields.item.Goals as goal
 pub input-requires : goal.input-requires
 input-requires c =
     let b = c.args.b.now in
-    let o = ok_of (input b c.args.at) (ap (λ k. std_is_ok (item k b c.args.at)) (sym c.if-inputs.true) ∙ c.requires) in
+    let o = ok_of (input b c.args.at) (ap (λ k. is_ok (item k b c.args.at)) (sym c.if-inputs.true) ∙ c.requires) in
     (input_ok b c.args.at o.0 o.1).inside
 
 pub output-requires : goal.output-requires
 output-requires c =
     let b = c.args.b.now in
-    let o = ok_of (output b c.args.at) (ap (λ k. std_is_ok (item k b c.args.at)) (sym c.if-inputs.false) ∙ c.requires) in
+    let o = ok_of (output b c.args.at) (ap (λ k. is_ok (item k b c.args.at)) (sym c.if-inputs.false) ∙ c.requires) in
     (output_ok b c.args.at o.0 o.1).1
 
 pub returns-then-inputs : goal.returns-then-inputs
@@ -23,7 +23,7 @@ returns-then-inputs c =
     let b = c.args.b.now in
     let at = c.args.at in
     let t = sym c.if-inputs.true in
-    let o = ok_of (input b at) (ap (λ k. std_is_ok (item k b at)) t ∙ c.requires) in
+    let o = ok_of (input b at) (ap (λ k. is_ok (item k b at)) t ∙ c.requires) in
     let s = (input_codec b).sound at o.0 (λ i. omega (arith, c.type_inv.b i)) o.1 in
     let p = c.input.ensures.piece in
     record {
@@ -31,7 +31,7 @@ returns-then-inputs c =
       offset = c.input.ensures.offset;
       end = c.input.ensures.end ∙ ap (λ k. item_end k b at) t;
       within = subst PieceWithin (sym p) s.0;
-      long = c.input.ensures.end ∙ input_long b at (is_ok _ _ o.1) ∙ ap (λ x. at + length (encode_piece x)) (sym p);
+      long = c.input.ensures.end ∙ input_long b at (ok_is _ _ o.1) ∙ ap (λ x. at + length (encode_piece x)) (sym p);
     }
 
 pub returns-else-inputs : goal.returns-else-inputs
@@ -39,7 +39,7 @@ returns-else-inputs c =
     let b = c.args.b.now in
     let at = c.args.at in
     let t = sym c.if-inputs.false in
-    let o = ok_of (output b at) (ap (λ k. std_is_ok (item k b at)) t ∙ c.requires) in
+    let o = ok_of (output b at) (ap (λ k. is_ok (item k b at)) t ∙ c.requires) in
     let s = (output_codec b).sound at o.0 (λ i. omega (arith, c.type_inv.b i)) o.1 in
     let p = c.output.ensures.piece in
     record {
