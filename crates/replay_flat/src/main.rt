@@ -4,30 +4,33 @@
 use replay::flat::printout_over_flat_table;
 use std::fs::File;
 use std::io::Read;
+use std::process::ExitCode;
 
 // The most bytes of blocks.dat that are read: one more than a block file may have.
 const MOST_READ: u64 = 65_537;
 
-// The block file, or a message on standard error.
-fn read_blocks(rt: &HostRuntime) -> anyhow::Result<Vec<u8>> {
+// The block file, or none and a message on standard error.
+fn read_blocks(rt: &HostRuntime) -> anyhow::Result<Option<Vec<u8>>> {
     let mut bytes = Vec::new(rt.alloc());
     let read = match File::open(rt, "blocks.dat") {
         Ok(file) => file.take(MOST_READ).read_to_end(&mut bytes),
         Err(error) => Err(error),
     };
     match read {
-        Ok(_) => Ok(bytes),
+        Ok(_) => Ok(Some(bytes)),
         Err(error) => {
             rt.eprintln(format_args!("replay_flat: cannot read blocks.dat: {error}"))?;
-            Err(error.into())
+            Ok(None)
         }
     }
 }
 
-fn main(rt: HostRuntime) -> anyhow::Result<()> {
-    let blocks = read_blocks(&rt)?;
+fn main(rt: HostRuntime) -> anyhow::Result<ExitCode> {
+    let Some(blocks) = read_blocks(&rt)? else {
+        return Ok(ExitCode::FAILURE);
+    };
     let mut script = Vec::new(rt.alloc());
     rt.stdin().read_to_end(&mut script)?;
     rt.print(printout_over_flat_table(rt.alloc(), &blocks, &script)?)?;
-    Ok(())
+    Ok(ExitCode::SUCCESS)
 }
