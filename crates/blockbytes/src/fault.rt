@@ -1,6 +1,6 @@
 // The faults of a block's form.
 ghost use Rattle.std.specs.Prelude.{◌≡◌};
-ghost use Rattle.blockbytes.specs.Faults.{form_refusal, at_offset};
+ghost use Rattle.blockbytes.specs.Faults.{form_refusal};
 
 use refusal::{Reason, Refusal};
 
@@ -15,8 +15,8 @@ pub enum FormFault {
 }
 
 // A reason at an offset.
-pub fn refused_at(reason: Reason, at: usize) -> Refusal
-    ensures { result ≡ at_offset reason at }
+pub fn at_offset(reason: Reason, at: usize) -> Refusal
+    ensures { result ≡ record { reason = reason; first = at; second = 0 } }
 {
     Refusal {
         reason,
@@ -30,11 +30,11 @@ impl FormFault {
         ensures { result ≡ form_refusal self }
     {
         match self {
-            FormFault::Cut { at } => refused_at(Reason::Cut, at),
-            FormFault::LongForm { at } => refused_at(Reason::LongForm, at),
-            FormFault::OverCount { at } => refused_at(Reason::OverCount, at),
-            FormFault::Tail { at } => refused_at(Reason::Tail, at),
-            FormFault::OverSize => refused_at(Reason::OverSize, 0),
+            FormFault::Cut { at } => at_offset(Reason::Cut, at),
+            FormFault::LongForm { at } => at_offset(Reason::LongForm, at),
+            FormFault::OverCount { at } => at_offset(Reason::OverCount, at),
+            FormFault::Tail { at } => at_offset(Reason::Tail, at),
+            FormFault::OverSize => at_offset(Reason::OverSize, 0),
         }
     }
 }

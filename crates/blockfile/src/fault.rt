@@ -3,7 +3,7 @@ ghost use Rattle.std.specs.Prelude.{◌≡◌};
 ghost use Rattle.blockfile.specs.Faults.{file_refusal, peek_refusal};
 ghost use Rattle.blockfile.specs.declared.fault.PeekFault.TheVariants.{File as OfFile, Form as OfForm};
 
-use blockbytes::fault::{FormFault, refused_at};
+use blockbytes::fault::{FormFault, at_offset};
 use refusal::{Reason, Refusal};
 
 // Why a block file gives no record; a cut record has its offset in the file.
@@ -26,9 +26,9 @@ impl FileFault {
         ensures { result ≡ file_refusal self }
     {
         match self {
-            FileFault::OverSize => refused_at(Reason::FileOverSize, 0),
-            FileFault::Cut { at } => refused_at(Reason::FileCut, at),
-            FileFault::Ended => refused_at(Reason::Ended, 0),
+            FileFault::OverSize => at_offset(Reason::FileOverSize, 0),
+            FileFault::Cut { at } => at_offset(Reason::FileCut, at),
+            FileFault::Ended => at_offset(Reason::Ended, 0),
         }
     }
 }
