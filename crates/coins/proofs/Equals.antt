@@ -6,17 +6,11 @@ use Rattle.std.proofs.lemmas.Bool.Decides.{nat_tests}
 use Rattle.coins.specs.declared.coin.Coin.{Coin}
 use Rattle.coins.specs.declared.coin.Lock.{Lock}
 use Rattle.coins.specs.Same.{same_flag, same_lock, same_coin, SameIsEqual}
+use Rattle.coins.specs.Comparisons.{locks_equiv, coins_equiv}
 
 both : (a b : Bool) → (a && b) ≡ true → (a ≡ true) × (b ≡ true)
 both true b h = (refl, h)
 both false b h = (h, grind arith)
-
-eqb_itself : (n : ℕ) → eqb n n ≡ true
-eqb_itself n = grind (arith, nat_tests)
-
-flag_itself : (b : Bool) → same_flag b b ≡ true
-flag_itself true = refl
-flag_itself false = refl
 
 flag_equal : (a b : Bool) → same_flag a b ≡ true → a ≡ b
 flag_equal true b h = sym h
@@ -27,7 +21,7 @@ number_equal : (a b : ℕ) → eqb a b ≡ true → a ≡ b
 number_equal a b h = grind (arith, nat_tests)
 
 pub lock_itself : (x : Lock) → same_lock x x ≡ true
-lock_itself x = let a = eqb_itself x.kind in let b = eqb_itself x.argument in grind arith
+lock_itself = locks_equiv.refl
 
 lock_equal : (x y : Lock) → same_lock x y ≡ true → x ≡ y
 lock_equal x y h =
@@ -37,12 +31,7 @@ lock_equal x y h =
     λ i. record { kind = k i; argument = a i }
 
 pub coin_itself : (x : Coin) → same_coin x x ≡ true
-coin_itself x =
-    let a = eqb_itself x.value in
-    let b = lock_itself x.lock in
-    let c = eqb_itself x.height in
-    let d = flag_itself x.coinbase in
-    grind arith
+coin_itself = coins_equiv.refl
 
 -- coins with equal parts
 pub coin_parts : (x y : Coin) → x.value ≡ y.value → x.lock ≡ y.lock → x.height ≡ y.height → x.coinbase ≡ y.coinbase → x ≡ y

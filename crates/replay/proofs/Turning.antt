@@ -32,8 +32,13 @@ module _ {V C : Type 0} (v : ViewGhosts V) (c : ConditionGhosts C) (file : List 
   runs_none a q cs said h = ([], subst (λ x. PageLaws v c q file x (said ++ []) a) (sym (append-nil cs)) (subst (λ x. PageLaws v c q file cs x a) (sym (append-nil said)) h))
 
   -- one call
-  pub runs_one : (a z : Ledger V C) (x : Call) (r : Answer) → ((q : Page) (cs : List Call) (said : List Answer) → PageLaws v c q file cs said a → PageLaws v c q file (cs ++ (x ∷ [])) (said ++ (r ∷ [])) z) → RunsOn v c file (x ∷ []) a z
+  runs_one : (a z : Ledger V C) (x : Call) (r : Answer) → ((q : Page) (cs : List Call) (said : List Answer) → PageLaws v c q file cs said a → PageLaws v c q file (cs ++ (x ∷ [])) (said ++ (r ∷ [])) z) → RunsOn v c file (x ∷ []) a z
   runs_one a z x r f q cs said h = (r ∷ [], f q cs said h)
+
+  -- one call, whose answer r is printed by `prints`
+  pub call_turn : {R : Type 0} (x : Call) (r : R) (said : Answer) (prints : R → Line) (says : Page → R) (l : Line) (a z : Ledger V C) → ((q : Page) → At v c q a → r ≡ says q) → l ≡ prints r
+      → ((q : Page) (cs : List Call) (done : List Answer) → PageLaws v c q file cs done a → PageLaws v c q file (cs ++ (x ∷ [])) (done ++ (said ∷ [])) z) → PageTurn v c file (x ∷ []) (λ q. prints (says q)) l a z
+  call_turn x r said prints says l a z told printed more = record { line = λ q s. printed ∙ ap prints (told q s); runs = runs_one a z x said more }
 
   pub runs_then : (a b z : Ledger V C) (cs ds : List Call) → RunsOn v c file cs a b → RunsOn v c file ds b z → RunsOn v c file (cs ++ ds) a z
   runs_then a b z cs ds f g q before said h =
