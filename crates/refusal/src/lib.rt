@@ -3,6 +3,7 @@
 
 ghost use Rattle.std.specs.Prelude.{◌≡◌};
 ghost use Rattle.refusal.specs.Numbers.{number_of, word_of, layer_of};
+ghost use Rattle.refusal.specs.Placed.{placed};
 
 // The part of the product that found the fault.
 #[derive(Clone, Copy, PartialEq, Eq, Debug)]
@@ -61,7 +62,27 @@ pub struct Refusal {
     pub second: u64,
 }
 
+// A reason whose fault has no place.
+impl From<Reason> for Refusal {
+    ghost from_gives = { λ reason r. r ≡ placed reason 0 0 };
+
+    fn from(reason: Reason) -> Refusal {
+        reason.at(0, 0)
+    }
+}
+
 impl Reason {
+    // The refusal for this reason at a place.
+    pub fn at(self, first: usize, second: usize) -> Refusal
+        ensures { result ≡ placed self first second }
+    {
+        Refusal {
+            reason: self,
+            first: first as u64,
+            second: second as u64,
+        }
+    }
+
     pub fn number(self) -> u8
         ensures { result ≡ number_of self }
     {
