@@ -3,6 +3,8 @@ use Rattle.std.specs.Prelude.{◌≡◌, ℕ, ◌≤◌, length}
 use Rattle.maps.specs.Maps.{Sorted}
 use Rattle.maps.specs.Layers.{Flags}
 use Rattle.maps.specs.Keyed.{outpoints}
+use Rattle.maps.specs.Single.{sorted_single}
+use Rattle.std.proofs.Props.{props}
 use Rattle.maps.proofs.Layered.{sorted_laid}
 use Rattle.coinsview.specs.Meaning.{Coins}
 use Rattle.entries.specs.Entries.{Entries}
@@ -21,3 +23,6 @@ pub record Kept (es : Entries) (room n : ℕ) (m : Coins) (most : ℕ) : Type 0 
 
 pub sorted_over : (es : Entries) (m : Coins) → Sorted outpoints m → Sorted outpoints (over_below es m)
 sorted_over es m s = sorted_laid outpoints marks es m s
+
+pub kept_single : (es : Entries) (room n : ℕ) (m : Coins) (most : ℕ) → IsProp (Kept es room n m most)
+kept_single es room n m most = Prim.hlevel (props, sorted_single outpoints es)

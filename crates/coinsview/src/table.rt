@@ -102,6 +102,8 @@ impl CoinsView for FlatTable<'_> {
 
     ghost small = { table_view.small };
 
+    ghost single = { table_view.single };
+
     fn capacity(&self) -> usize {
         self.cells.len()
     }

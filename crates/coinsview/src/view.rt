@@ -31,6 +31,9 @@ pub trait CoinsView {
 
     ghost small: { (s : Self) → ok s → most s ≤ 4096 };
 
+    // Being in order has one proof at most, so that a type over a view can carry it.
+    ghost single: { (s : Self) → IsProp (ok s) };
+
     // The capacity.
     fn capacity(&self) -> usize
         requires { ok self.now }
