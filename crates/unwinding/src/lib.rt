@@ -5,6 +5,8 @@ ghost use Rattle.std.specs.Prelude.{◌≡◌, true, [], Some, None, MatchOption
 ghost use Rattle.undo.specs.Entries.{entries};
 ghost use Rattle.unwinding.specs.Undoing.{undone, found, back};
 
+pub mod chainstate;
+
 use coinsview::view::CoinsView;
 use undo::{Record, Undo};
 
