@@ -1,9 +1,9 @@
 -- Entries changed at their place.
-use Rattle.std.proofs.Common.{◌≡◌, ℕ, suc, ◌+◌, ◌<◌, [], ◌∷◌, length, get_or, set, Some, Ok, Err, sym, refl, ap, ◌∙◌, add-one, arith}
-use Rattle.std.specs.List.{slice_get, remove}
+use Rattle.std.proofs.Common.{◌≡◌, ℕ, suc, ◌+◌, ◌<◌, [], ◌∷◌, length, get_or, set, Some, Ok, Err, sym, refl, ap, ◌∙◌, subst, add-one, arith}
+use Rattle.std.specs.List.{slice_get, insert, remove}
 use Rattle.coins.specs.declared.outpoint.Outpoint.{Outpoint}
 use Rattle.maps.specs.Maps.{look, after, Sorted}
-use Rattle.maps.proofs.Laws.{remove_place, after_present, after_absent}
+use Rattle.maps.proofs.Laws.{insert_place, remove_place, sorted_insert, sorted_remove, after_present, after_absent}
 use Rattle.maps.proofs.Layered.{set_place, key_place}
 use Rattle.maps.specs.Keyed.{outpoints}
 use Rattle.entries.specs.declared.table.Entry.{Entry}
@@ -17,6 +17,9 @@ there k es i f = go es refl
     go : (xs : Entries) → xs ≡ es → (entry : Entry) × (entry_at k es ≡ Some entry)
     go [] e = absurd (omega (arith, ap length e, f.1))
     go (x ∷ xs) e = (_, f.2 x)
+
+pub added_at : (k : Outpoint) (e : Entry) (es : Entries) (i : ℕ) → Found outpoints k es (Err i) → insert es i (k, e) ≡ with_entry k e es
+added_at k e es i f = ap (λ j. insert es j (k, e)) f.0 ∙ sym (insert_place outpoints k e es f.2)
 
 pub removed_at : (k : Outpoint) (es : Entries) (i : ℕ) → Found outpoints k es (Ok i) → remove es i ≡ without_entry k es
 removed_at k es i f = ap (remove es) f.0 ∙ (let t = there k es i f in sym (remove_place outpoints k t.0 es t.1))
@@ -36,3 +39,10 @@ after_found k es i s f = go es refl f.1 f.2
 
 pub after_missing : (k : Outpoint) (es : Entries) (i : ℕ) → Found outpoints k es (Err i) → after outpoints k es ≡ slice_get es i
 after_missing k es i f = after_absent outpoints k es f.2 ∙ ap (slice_get es) (sym f.0)
+
+-- what one write leaves is in order
+pub sorted_with : (k : Outpoint) (e : Entry) (es new : Entries) → new ≡ with_entry k e es → Sorted outpoints es → Sorted outpoints new
+sorted_with k e es new h s = subst (Sorted outpoints) (sym h) (sorted_insert outpoints k e es s)
+
+pub sorted_without : (k : Outpoint) (es new : Entries) → new ≡ without_entry k es → Sorted outpoints es → Sorted outpoints new
+sorted_without k es new h s = subst (Sorted outpoints) (sym h) (sorted_remove outpoints k es s)

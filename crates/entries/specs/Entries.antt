@@ -1,11 +1,10 @@
 -- The entries of a cache: a map from outpoints, in their order.
-use Rattle.std.specs.Prelude.{◌≡◌, ◌≤◌, true, false, List, [], Some, None, vec_items, vec_capacity, Option}
+use Rattle.std.specs.Prelude.{true, false, List, Some, None, Option}
 use Rattle.coins.specs.declared.coin.Coin.{Coin}
 use Rattle.coins.specs.declared.outpoint.Outpoint.{Outpoint}
 use Rattle.maps.specs.Maps.{look, insert, remove}
 use Rattle.maps.specs.Keyed.{outpoints}
 use Rattle.entries.specs.declared.table.Entry.{Entry}
-use Rattle.entries.specs.declared.table.EntryTable.{EntryTable}
 
 abbrev pub Entries : Type 0
 Entries = List (Outpoint × Entry)
@@ -34,8 +33,3 @@ replaced c = record { coin = Some c; dirty = true; fresh = false }
 -- no coin, in the place of one that stands below
 abbrev pub spent : Entry
 spent = record { coin = None; dirty = true; fresh = false }
-
--- no entries, and memory for 64
-pub record Ready (t : EntryTable) : Type 0 where
-  pub none : vec_items t.entries ≡ []
-  pub held : 64 ≤ vec_capacity t.entries

@@ -1,29 +1,26 @@
-// At most 64 entries in the order of their outpoints, in memory that is reserved at making.
-ghost use Rattle.std.specs.Prelude.{◌≡◌, ◌<◌, ◌≤◌, [], ◌∷◌, length, IfOk, Ok, Err, vec_len, vec_capacity, nat_lt, slice_index_or};
-ghost use Rattle.std.specs.Borrow.{sem, follows};
-ghost use denote.Struct.Tuple.{Tuple};
-ghost use Rattle.std.specs.Vec.{with_item};
+// At most 64 entries in the order of their outpoints, in the value itself: no call asks for memory.
+ghost use Rattle.std.specs.Prelude.{◌≡◌, ◌<◌, ◌≤◌, ◌↔◌, [], length, Some, Ok, Err, IsSome, IfSome, nat_lt, slice_index_or};
+ghost use Rattle.std.specs.Borrow.{sem};
 ghost use Rattle.std.specs.List.{slice_get};
 ghost use Rattle.std.specs.Option.{option_map};
-ghost use Rattle.coins.specs.contracts.outpoint.Outpoint.{the_row as outpoint_row};
 ghost use Rattle.maps.specs.Maps.{Sorted, next_of};
 ghost use Rattle.maps.specs.Keyed.{outpoints};
 ghost use Rattle.maps.specs.Search.{Found};
-ghost use Rattle.entries.specs.Entries.{Ready, with_entry, without_entry, clean, created, replaced, spent};
-ghost use Rattle.entries.specs.contracts.table.Entry.{the_row as entry_row};
-ghost use Rattle.entries.specs.contracts.table.EntryTable.{the_row as table_row};
+ghost use Rattle.maps.specs.Single.{sorted_single};
+ghost use Rattle.entries.specs.Entries.{entry_at, with_entry, without_entry, clean, created, replaced, spent};
+ghost use Rattle.entries.specs.Lent.{lends_slot};
 
+use arrayvec::ArrayVec;
 use coins::coin::Coin;
 use coins::outpoint::Outpoint;
 use maps::search::find;
-use std::alloc::{AllocError, Global};
 
 // The most entries of a cache.
 pub const MOST_ENTRIES: usize = 64;
 
 // What a cache says of an outpoint: a coin, or that it is spent. A dirty entry may differ from the view below; where one
-// is fresh, the view below has no coin.
-#[derive(Clone, Copy)]
+// is fresh, the view below has no coin. The rules of a cache name the two flags, so they stay flags.
+#[derive(Clone, Copy, Default)]
 pub struct Entry {
     pub coin: Option<Coin>,
     pub dirty: bool,
@@ -76,41 +73,77 @@ impl Entry {
     }
 }
 
+// The entries in their places, apart from the table: who is lent one may write its outpoint too, and the table's order is
+// to hold again before the table is used.
+#[derive(Drop)]
+pub struct Slots {
+    pub entries: ArrayVec<(Outpoint, Entry), MOST_ENTRIES>,
+}
+
+impl Slots {
+    // The entry at i, lent.
+    fn lend(&mut self, i: usize) -> Option<&mut (Outpoint, Entry)>
+        ensures* follows { sem 𝓛 (lends_slot self.entry i result) }
+        ensures there { IsSome result ↔ (i < length self.old.entries.items) }
+        ensures value { IfSome result (λ x. x.now ≡ slice_index_or self.old.entries.items i x.now) }
+    {
+        self.entries.get_mut(i)
+    }
+}
+
 #[derive(Drop)]
 pub struct EntryTable {
-    pub entries: Vec<(Outpoint, Entry)>,
+    pub slots: Slots,
+    pub ghost few: { length slots.entries.items ≤ 64 },
+    pub ghost sorted: { Sorted outpoints slots.entries.items } by { sorted_single outpoints slots.entries.items },
 }
 
 impl EntryTable {
-    // No entries, and memory for 64, or no memory. Nothing else of a view asks for memory.
-    pub fn new(heap: Global) -> Result<EntryTable, AllocError>
-        ensures empty { IfOk result (λ t. (t.entries.items ≡ []) × (64 ≤ vec_capacity t.entries)) }
-        ensures ready { IfOk result Ready }
+    ghost use Rattle.entries.specs.Table.{entries_in};
+
+    // No entries.
+    pub fn new() -> EntryTable
+        ensures { entries_in result ≡ [] }
     {
-        let entries = Vec::with_capacity(heap, MOST_ENTRIES)?;
-        Ok(EntryTable { entries })
+        let entries = ArrayVec::new();
+        EntryTable {
+            slots: Slots { entries },
+        }
+    }
+
+    // The entries in their order.
+    pub fn as_slice(&self) -> &[(Outpoint, Entry)]
+        ensures { result.now ≡ entries_in self.now }
+    {
+        self.slots.entries.as_slice()
     }
 
     // Whether one entry more has a place.
     pub fn has_room(&self) -> bool
-        ensures { result ≡ nat_lt (length self.now.entries.items) 64 }
+        ensures { result ≡ nat_lt (length (entries_in self.now)) 64 }
     {
-        self.entries.len() < MOST_ENTRIES
+        self.slots.entries.len() < MOST_ENTRIES
     }
 
     // The place of k, as `Ok` where it has an entry.
     pub fn find(&self, k: &Outpoint) -> Result<usize, usize>
-        requires { Sorted outpoints self.now.entries.items }
-        ensures { Found outpoints k.now self.now.entries.items result }
+        ensures { Found outpoints k.now (entries_in self.now) result }
     {
-        find(self.entries.as_slice(), k)
+        find(self.as_slice(), k)
+    }
+
+    // The entry that a search for its outpoint found at i.
+    pub fn entry(&self, i: usize, at: &Outpoint) -> Entry
+        requires { Found outpoints at.now (entries_in self.now) (Ok i) }
+        ensures { entry_at at.now (entries_in self.now) ≡ Some result }
+    {
+        self.as_slice()[i].1
     }
 
     // The place of the first entry above an outpoint, or of all.
     pub fn above(&self, from: Option<&Outpoint>) -> usize
-        requires { Sorted outpoints self.now.entries.items }
-        ensures within { result ≤ length self.now.entries.items }
-        ensures first { next_of outpoints (option_map (λ x. x.now) from.entry) self.now.entries.items ≡ slice_get self.now.entries.items result }
+        ensures within { result ≤ length (entries_in self.now) }
+        ensures first { next_of outpoints (option_map (λ x. x.now) from.entry) (entries_in self.now) ≡ slice_get (entries_in self.now) result }
     {
         match from {
             None => 0,
@@ -123,60 +156,51 @@ impl EntryTable {
 
     // One entry more, at the place where a search for its outpoint ended.
     pub fn add(&mut self, i: usize, at: Outpoint, entry: Entry)
-        requires here { Found outpoints at self.old.entries.items (Err i) }
-        requires room { length self.old.entries.items < 64 }
-        requires held { 64 ≤ vec_capacity self.old.entries }
-        ensures items { self.new.entries.items ≡ with_entry at entry self.old.entries.items }
-        ensures held { 64 ≤ vec_capacity self.new.entries }
+        requires here { Found outpoints at (entries_in self.old) (Err i) }
+        requires room { length (entries_in self.old) < 64 }
+        ensures { entries_in self.new ≡ with_entry at entry (entries_in self.old) }
     {
-        let _ = self.entries.insert(i, (at, entry));
+        self.slots.entries.insert(i, (at, entry));
     }
 
     // The entry that a search for its outpoint found at i is dropped.
     pub fn drop_at(&mut self, i: usize, at: &Outpoint)
-        requires { Found outpoints at.now self.old.entries.items (Ok i) }
-        ensures items { self.new.entries.items ≡ without_entry at.now self.old.entries.items }
-        ensures held { vec_capacity self.new.entries ≡ vec_capacity self.old.entries }
+        requires { Found outpoints at.now (entries_in self.old) (Ok i) }
+        ensures { entries_in self.new ≡ without_entry at.now (entries_in self.old) }
     {
-        let _ = self.entries.remove(i);
+        let _ = self.slots.entries.remove(i);
     }
 
-    // The entry at i, lent.
-    fn lend(&mut self, i: usize) -> &mut (Outpoint, Entry)
-        requires { i < vec_len self.old.entries }
-        ensures* follows { sem 𝓛 (follows table_row (Tuple (outpoint_row ∷ entry_row ∷ [])) self.entry.ghost_name result.ghost_name (λ w. record { entries = with_item self.old.entries i w })) }
-        ensures value { result.now ≡ slice_index_or self.old.entries.items i result.now }
+    // The entry that was found at i is written over.
+    fn write(&mut self, i: usize, at: &Outpoint, entry: Entry)
+        requires { Found outpoints at.now (entries_in self.old) (Ok i) }
+        ensures { entries_in self.new ≡ with_entry at.now entry (entries_in self.old) }
     {
-        &mut self.entries[i]
+        if let Some(slot) = self.slots.lend(i) {
+            slot.1 = entry;
+        }
     }
 
     // The entry that was found at i gets a coin in the place of one that stands below.
     pub fn replace(&mut self, i: usize, at: &Outpoint, coin: Coin)
-        requires { Found outpoints at.now self.old.entries.items (Ok i) }
-        ensures items { self.new.entries.items ≡ with_entry at.now (replaced coin) self.old.entries.items }
-        ensures held { vec_capacity self.new.entries ≡ vec_capacity self.old.entries }
+        requires { Found outpoints at.now (entries_in self.old) (Ok i) }
+        ensures { entries_in self.new ≡ with_entry at.now (replaced coin) (entries_in self.old) }
     {
-        let entry = Entry::replaced(coin);
-        self.lend(i).1 = entry;
+        self.write(i, at, Entry::replaced(coin));
     }
 
     // The entry that was found at i becomes spent.
     pub fn spend(&mut self, i: usize, at: &Outpoint)
-        requires { Found outpoints at.now self.old.entries.items (Ok i) }
-        ensures items { self.new.entries.items ≡ with_entry at.now spent self.old.entries.items }
-        ensures held { vec_capacity self.new.entries ≡ vec_capacity self.old.entries }
+        requires { Found outpoints at.now (entries_in self.old) (Ok i) }
+        ensures { entries_in self.new ≡ with_entry at.now spent (entries_in self.old) }
     {
-        let (_, entry) = self.lend(i);
-        entry.coin = None;
-        entry.dirty = true;
-        entry.fresh = false;
+        self.write(i, at, Entry::spent());
     }
 
-    // No entry is left; the memory stays.
+    // No entry is left.
     pub fn clear(&mut self)
-        ensures items { self.new.entries.items ≡ [] }
-        ensures held { vec_capacity self.new.entries ≡ vec_capacity self.old.entries }
+        ensures { entries_in self.new ≡ [] }
     {
-        self.entries.clear();
+        self.slots.entries.clear();
     }
 }
