@@ -1,5 +1,6 @@
 -- The turns of the walk for the next pair.
-use Rattle.std.proofs.Common.{◌≡◌, ℕ, zero, suc, ◌+◌, ◌<◌, ◌≤◌, true, false, List, [], ◌∷◌, length, get_or, Some, None, Option, Ordering, Less, Equal, Greater, sym, refl, ap, ◌∙◌, arith}
+use Rattle.std.proofs.Common.{◌≡◌, ℕ, zero, suc, ◌+◌, ◌-◌, ◌<◌, ◌≤◌, true, false, List, [], ◌∷◌, length, get_or, take, drop, Some, None, Option, Ordering, Less, Equal, Greater, sym, refl, ap, ◌∙◌, take_all, arith}
+use Rattle.std.proofs.lemmas.List.{get_or-drop, length-drop}
 use Rattle.std.specs.List.{slice_get}
 use Rattle.coins.specs.declared.outpoint.Outpoint.{Outpoint}
 use Rattle.coins.specs.declared.coin.Coin.{Coin}
@@ -23,6 +24,22 @@ nth_past [] i l = refl
 nth_past (x ∷ xs) zero l = absurd (omega arith)
 nth_past (x ∷ xs) (suc i) l = nth_past xs i (omega arith)
 
+-- the entries from the place a on, as a slice of them shows
+abbrev pub rest : Entries → ℕ → Entries
+rest es a = take (length es - a) (drop a es)
+
+rest_is : (es : Entries) (a : ℕ) → rest es a ≡ drop a es
+rest_is es a = take_all (length es - a) (drop a es) (omega (arith, length-drop a es))
+
+rest_within : (es : Entries) (a j : ℕ) → j < length (rest es a) → a + j < length es
+rest_within es a j l = omega (arith, ap length (rest_is es a), length-drop a es)
+
+rest_item : (es : Entries) (a j : ℕ) (d : Outpoint × Entry) → d ≡ get_or (rest es a) j d → d ≡ get_or es (a + j) d
+rest_item es a j d r = r ∙ ap (λ xs. get_or xs j d) (rest_is es a) ∙ get_or-drop a es j d
+
+rest_past : (es : Entries) (a j : ℕ) → a ≤ length es → length (rest es a) ≤ j → length es ≤ a + j
+rest_past es a j w l = omega (arith, ap length (rest_is es a), length-drop a es)
+
 earlier_less : (r : Ordering) → earlier r ≡ true → r ≡ Less
 earlier_less Less e = refl
 earlier_less Equal e = grind arith
@@ -31,14 +48,14 @@ earlier_less Greater e = grind arith
 earlier_not : (r : Ordering) → earlier r ≡ false → r ≡ Less → ⊥
 earlier_not r e l = let q : ◌≡◌ {A = ℕ} 0 1 = grind arith in omega arith
 
-module _ (last : Option Outpoint) (es : Entries) (m : Coins) (t : Sorted outpoints es) (s : Sorted outpoints m) (i : ℕ) (f : next_of outpoints last es ≡ slice_get es i) where
-  pub next_past : (b : Option (Outpoint × Coin)) → b ≡ next_of outpoints last m → length es ≤ i → b ≡ next_of outpoints last (over_below es m)
-  next_past b h l = sym (next_below outpoints marks last es m t s b (sym h) (λ q z. next_none outpoints last es t (f ∙ nth_past es i l) q z))
+module _ (last : Option Outpoint) (es : Entries) (m : Coins) (t : Sorted outpoints es) (s : Sorted outpoints m) (a j : ℕ) (f : next_of outpoints last es ≡ slice_get es (a + j)) where
+  pub next_past : (b : Option (Outpoint × Coin)) → b ≡ next_of outpoints last m → a ≤ length es → length (rest es a) ≤ j → b ≡ next_of outpoints last (over_below es m)
+  next_past b h w l = sym (next_below outpoints marks last es m t s b (sym h) (λ q z. next_none outpoints last es t (f ∙ nth_past es (a + j) (rest_past es a j w l)) q z))
 
-  -- at the entry d, which is the i-th
-  module _ (d : Outpoint × Entry) (l : i < length es) (r : d ≡ get_or es i d) where
+  -- at the entry d, which is the j-th from the place a on
+  module _ (d : Outpoint × Entry) (l : j < length (rest es a)) (r : d ≡ get_or (rest es a) j d) where
     here : next_of outpoints last es ≡ Some d
-    here = f ∙ nth_at es i d l ∙ ap Some (sym r)
+    here = f ∙ nth_at es (a + j) d (rest_within es a j l) ∙ ap Some (sym (rest_item es a j d r))
 
     pub found_before : (b : Option (Outpoint × Coin)) → b ≡ next_of outpoints last m → comes_before b d.0 ≡ true → b ≡ next_of outpoints last (over_below es m)
     found_before None h e = absurd (let q : ◌≡◌ {A = ℕ} 0 1 = cc in omega arith)
@@ -53,8 +70,8 @@ module _ (last : Option Outpoint) (es : Entries) (m : Coins) (t : Sorted outpoin
     pub found_spent : (b : Option (Outpoint × Coin)) → b ≡ next_of outpoints last m → comes_before b d.0 ≡ false → d.1.coin ≡ None → next_of outpoints (Some d.0) (over_below es m) ≡ next_of outpoints last (over_below es m)
     found_spent b h e y = sym (next_spent outpoints marks last es m t s d here y (none_up_to b h e))
 
-    pub next_first : next_of outpoints (Some d.0) es ≡ slice_get es (i + 1)
-    next_first = ap (λ x. next_of outpoints (Some x.0) es) r ∙ next_at outpoints es i d t l
+    pub next_first : next_of outpoints (Some d.0) es ≡ slice_get es (a + (j + 1))
+    next_first = ap (λ x. next_of outpoints (Some x.0) es) (rest_item es a j d r) ∙ next_at outpoints es (a + j) d t (rest_within es a j l) ∙ ap (slice_get es) (omega arith)
 
 -- what the view below answers
 pub asked : (last r : Option Outpoint) (n m : Coins) (b : Option (Outpoint × Coin)) → b ≡ next_in r n → r ≡ last → n ≡ m → b ≡ next_of outpoints last m

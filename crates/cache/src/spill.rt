@@ -43,8 +43,8 @@ pub fn take_dirty<V: CoinsView>(below: &mut V, entries: &[(Outpoint, Entry)])
     ensures fixed { V.CoinsView.most below.new ≡ V.CoinsView.most below.old }
     ensures map { V.CoinsView.coins below.new ≡ taken_below entries.now (V.CoinsView.coins below.old) }
 {
-    for pair in entries {
-        take_one(below, &pair.0, &pair.1);
+    for (at, e) in entries {
+        take_one(below, at, e);
     }
 }
 
@@ -56,7 +56,7 @@ pub fn put_dirty<V: CoinsView>(below: &mut V, entries: &[(Outpoint, Entry)])
     ensures fixed { V.CoinsView.most below.new ≡ V.CoinsView.most below.old }
     ensures map { V.CoinsView.coins below.new ≡ put_below entries.now (V.CoinsView.coins below.old) }
 {
-    for pair in entries {
-        put_one(below, &pair.0, &pair.1);
+    for (at, e) in entries {
+        put_one(below, at, e);
     }
 }

@@ -10,16 +10,12 @@ use coins::coin::Coin;
 use coins::outpoint::Outpoint;
 use coinsview::view::CoinsView;
 use entries::table::Entry;
-use std::cmp::Ordering;
 
 // Whether the pair found below comes before an outpoint.
 fn before(found: &Option<(Outpoint, Coin)>, at: &Outpoint) -> bool
     ensures { result ≡ comes_before found.now at.now }
 {
-    match *found {
-        Some(pair) => matches!(pair.0.cmp(at), Ordering::Less),
-        None => false,
-    }
+    found.is_some_and(|pair| pair.0 < *at)
 }
 
 // The least pair above an outpoint that the entries say over the view below; `start` is the place of the first entry above it.
@@ -39,16 +35,15 @@ pub fn next_over<V: CoinsView>(
     ensures value { result ≡ next_of outpoints from (over_below entries.now (V.CoinsView.coins below.old)) }
 {
     let mut last = from;
-    for i in start..entries.len() {
-        let pair = entries[i];
+    for (at, e) in &entries[start..] {
         let found = below.next(last.as_ref());
-        if before(&found, &pair.0) {
+        if before(&found, at) {
             return found;
         }
-        if let Some(coin) = pair.1.coin {
-            return Some((pair.0, coin));
+        if let Some(coin) = e.coin {
+            return Some((*at, coin));
         }
-        last = Some(pair.0);
+        last = Some(*at);
     }
     below.next(last.as_ref())
 }

@@ -1,5 +1,5 @@
 -- Entries changed at their place.
-use Rattle.std.proofs.Common.{◌≡◌, ℕ, suc, ◌+◌, ◌<◌, [], ◌∷◌, length, get_or, set, Some, Ok, Err, sym, refl, ap, ◌∙◌, subst, add-one, arith}
+use Rattle.std.proofs.Common.{◌≡◌, ℕ, suc, ◌+◌, ◌<◌, [], ◌∷◌, length, get_or, set, Some, Ok, Err, Result, sym, refl, ap, ◌∙◌, subst, add-one, arith}
 use Rattle.std.specs.List.{slice_get, insert, remove}
 use Rattle.coins.specs.declared.outpoint.Outpoint.{Outpoint}
 use Rattle.maps.specs.Maps.{look, after, Sorted}
@@ -17,6 +17,9 @@ there k es i f = go es refl
     go : (xs : Entries) → xs ≡ es → (entry : Entry) × (entry_at k es ≡ Some entry)
     go [] e = absurd (omega (arith, ap length e, f.1))
     go (x ∷ xs) e = (_, f.2 x)
+
+pub there_at : (k : Outpoint) (es : Entries) (p : Result ℕ ℕ) (i : ℕ) → p ≡ Ok i → Found outpoints k es p → (entry : Entry) × (entry_at k es ≡ Some entry)
+there_at k es p i e f = there k es i (subst (Found outpoints k es) e f)
 
 pub added_at : (k : Outpoint) (e : Entry) (es : Entries) (i : ℕ) → Found outpoints k es (Err i) → insert es i (k, e) ≡ with_entry k e es
 added_at k e es i f = ap (λ j. insert es j (k, e)) f.0 ∙ sym (insert_place outpoints k e es f.2)

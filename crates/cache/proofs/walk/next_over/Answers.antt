@@ -5,40 +5,40 @@ use Rattle.cache.proofs.walk.next_over.Goals as goal
 pub returns-then-before : goal.returns-then-before
 returns-then-before g c =
     let v = g.V.CoinsView in
-    let l = c.loop-i in
+    let l = c.loop-at in
     let e = c.next-found.ensures in
     let rows = v.sorted c.args.below.now c.requires.ok in
     let found = asked l.last _ _ (v.coins c.args.below.now) _ e.value c.as_ref.ensures.value l.invariant.2 in
-    record { ok = e.well; fixed = e.fixed ∙ l.invariant.1; map = e.map ∙ l.invariant.2; value = found_before _ _ _ c.requires.sorted rows l.i l.invariant.3 _ c.loop-i-test.true c.index-entries-i.is _ found (sym c.if-before.ensures) ∙ l.invariant.4 }
+    record { ok = e.well; fixed = e.fixed ∙ l.invariant.1; map = e.map ∙ l.invariant.2; value = found_before _ _ _ c.requires.sorted rows c.args.start l.at-index l.invariant.3 _ c.loop-at-test.true c.loop-at-item.is _ found (sym c.if-before.ensures) ∙ l.invariant.4 }
 
 pub returns-in-Some : goal.returns-in-Some
 returns-in-Some g c =
     let v = g.V.CoinsView in
-    let l = c.loop-i in
+    let l = c.loop-at in
     let e = c.next-found.ensures in
     let rows = v.sorted c.args.below.now c.requires.ok in
     let found = asked l.last _ _ (v.coins c.args.below.now) _ e.value c.as_ref.ensures.value l.invariant.2 in
-    record { ok = e.well; fixed = e.fixed ∙ l.invariant.1; map = e.map ∙ l.invariant.2; value = found_entry _ _ _ c.requires.sorted rows l.i l.invariant.3 _ c.loop-i-test.true c.index-entries-i.is _ _ found (sym c.if-before.ensures) c.in-Some.is ∙ l.invariant.4 }
+    record { ok = e.well; fixed = e.fixed ∙ l.invariant.1; map = e.map ∙ l.invariant.2; value = found_entry _ _ _ c.requires.sorted rows c.args.start l.at-index l.invariant.3 _ c.loop-at-test.true c.loop-at-item.is _ _ found (sym c.if-before.ensures) c.in-Some.is ∙ l.invariant.4 }
 
-pub loop-i-preserved : goal.loop-i-preserved
-loop-i-preserved g c =
+pub loop-at-preserved : goal.loop-at-preserved
+loop-at-preserved g c =
     let v = g.V.CoinsView in
-    let l = c.loop-i in
+    let l = c.loop-at in
     let e = c.next-found.ensures in
     let rows = v.sorted c.args.below.now c.requires.ok in
     let found = asked l.last _ _ (v.coins c.args.below.now) _ e.value c.as_ref.ensures.value l.invariant.2 in (
       e.well,
       e.fixed ∙ l.invariant.1,
       e.map ∙ l.invariant.2,
-      next_first _ _ _ c.requires.sorted rows l.i l.invariant.3 _ c.loop-i-test.true c.index-entries-i.is,
-      found_spent _ _ _ c.requires.sorted rows l.i l.invariant.3 _ c.loop-i-test.true c.index-entries-i.is _ found (sym c.if-before.ensures) c.in_default.is ∙ l.invariant.4,
+      next_first _ _ _ c.requires.sorted rows c.args.start l.at-index l.invariant.3 _ c.loop-at-test.true c.loop-at-item.is,
+      found_spent _ _ _ c.requires.sorted rows c.args.start l.at-index l.invariant.3 _ c.loop-at-test.true c.loop-at-item.is _ found (sym c.if-before.ensures) c.in_default.is ∙ l.invariant.4,
     )
 
 pub returns : goal.returns
 returns g c =
     let v = g.V.CoinsView in
-    let l = c.loop-i in
+    let l = c.loop-at in
     let e = c.next.ensures in
     let rows = v.sorted c.args.below.now c.requires.ok in
     let found = asked l.last _ _ (v.coins c.args.below.now) _ e.value c.as_ref-2.ensures.value l.invariant.2 in
-    record { ok = e.well; fixed = e.fixed ∙ l.invariant.1; map = e.map ∙ l.invariant.2; value = next_past _ _ _ c.requires.sorted rows l.i l.invariant.3 _ found c.loop-i-test.false ∙ l.invariant.4 }
+    record { ok = e.well; fixed = e.fixed ∙ l.invariant.1; map = e.map ∙ l.invariant.2; value = next_past _ _ _ c.requires.sorted rows c.args.start l.at-index l.invariant.3 _ found c.requires.within c.loop-at-test.false ∙ l.invariant.4 }
