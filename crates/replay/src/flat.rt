@@ -48,7 +48,7 @@ pub fn printout_over_flat_table<'a>(
     ensures laws { OnOk result ((l : FlatLedger) × (said : List Said) × PageLaws (cache_view table_view) badge_or_clock first_page blocks.now (script_calls blocks.now script.now) said l) }
 {
     let mut cells = vec![in heap; CELL; CELLS]?;
-    let view = Cache::new(heap, FlatTable::new(&mut cells))?;
+    let view = Cache::new(FlatTable::new(&mut cells));
     let condition = Either {
         first: Badge,
         second: Clock,

@@ -1,7 +1,7 @@
 // Spend conditions: whether a witness opens a lock at a height.
 ghost use Rattle.std.specs.Prelude.{◌≡◌, ℕ, Bool, ◌||◌, List};
 ghost use Rattle.coins.specs.declared.coin.Lock.{Lock};
-ghost use Rattle.views.specs.Conditions.{bytes_of, badge_opens, clock_opens};
+ghost use Rattle.views.specs.Conditions.{badge_opens, clock_opens};
 
 use coins::coin::Lock;
 
@@ -17,18 +17,16 @@ pub trait SpendCondition {
 #[derive(Clone, Copy, PartialEq, Eq, Debug)]
 pub struct Badge;
 
-// The 8 bytes of a lock's argument, least byte first.
-fn argument_bytes(lock: &Lock) -> [u8; 8]
-    ensures { result ≡ bytes_of lock.now.argument }
-{
-    lock.argument.to_le_bytes()
+impl Badge {
+    // The kind of lock that a badge opens. A kind is any byte, so it stays a number with names for two.
+    pub const KIND: u8 = 1;
 }
 
 impl SpendCondition for Badge {
     ghost opens = { λ _. badge_opens };
 
     fn opens(&self, lock: &Lock, witness: &[u8], _height: u32) -> bool {
-        lock.kind == 1 && witness == argument_bytes(lock).as_slice()
+        lock.kind == Badge::KIND && witness == lock.argument.to_le_bytes().as_slice()
     }
 }
 
@@ -36,11 +34,16 @@ impl SpendCondition for Badge {
 #[derive(Clone, Copy, PartialEq, Eq, Debug)]
 pub struct Clock;
 
+impl Clock {
+    // The kind of lock that a clock opens.
+    pub const KIND: u8 = 2;
+}
+
 impl SpendCondition for Clock {
     ghost opens = { λ _. clock_opens };
 
     fn opens(&self, lock: &Lock, witness: &[u8], height: u32) -> bool {
-        lock.kind == 2 && witness.is_empty() && lock.argument <= u64::from(height)
+        lock.kind == Clock::KIND && witness.is_empty() && lock.argument <= u64::from(height)
     }
 }
 

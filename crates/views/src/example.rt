@@ -17,7 +17,7 @@ pub struct SpentTwice {
 }
 
 // Takes the coin of an outpoint, puts another there, takes that, and flushes: the base has none there, and is otherwise
-// as the map was.
+// as the map was. It stands beside the next for callers that need no answers: one function has one result.
 pub fn spend_twice<V: CoinsView>(view: &mut V, at: &Outpoint, other: Coin)
     requires { V.CoinsView.ok view.old }
     ensures well { V.CoinsView.ok view.new }

@@ -17,7 +17,7 @@ pub fn cache_agrees(
     cells: &mut [(Outpoint, Coin)],
     lists: Lists,
 ) -> Result<bool, AllocError> {
-    agrees(heap, &mut cached_table(heap, cells)?, lists)
+    agrees(heap, &mut cached_table(cells), lists)
 }
 
 pub fn pile_agrees(
@@ -26,7 +26,7 @@ pub fn pile_agrees(
     limit: usize,
     lists: Lists,
 ) -> Result<bool, AllocError> {
-    agrees(heap, &mut cached_quota(heap, cells, limit)?, lists)
+    agrees(heap, &mut cached_quota(cells, limit), lists)
 }
 
 pub fn quota_agrees(
@@ -35,5 +35,5 @@ pub fn quota_agrees(
     limit: usize,
     lists: Lists,
 ) -> Result<bool, AllocError> {
-    agrees(heap, &mut quota_over_cache(heap, cells, limit)?, lists)
+    agrees(heap, &mut quota_over_cache(cells, limit), lists)
 }

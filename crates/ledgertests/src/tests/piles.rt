@@ -37,7 +37,7 @@ const CELL: (Outpoint, Coin) = (
 // Makes the calls of a list on a new ledger over a cache on a table.
 fn cache_agrees(heap: Global, blocks: &[Vec<u8>], list: &[(Call, Answer)]) -> Result<(), Fail> {
     let mut cells = [CELL; 512];
-    let mut ledger = Ledger::new(cached_table(heap, &mut cells)?, Badge);
+    let mut ledger = Ledger::new(cached_table(&mut cells), Badge);
     agrees(heap, &mut ledger, blocks, list)
 }
 
@@ -79,7 +79,7 @@ fn filling_a_table(rt: HostRuntime) -> Result<(), Fail> {
 fn filling_a_quota(rt: HostRuntime) -> Result<(), Fail> {
     let heap = rt.alloc();
     let mut cells = [CELL; 8];
-    let mut ledger = Ledger::new(cached_quota(heap, &mut cells, 3)?, Badge);
+    let mut ledger = Ledger::new(cached_quota(&mut cells, 3), Badge);
     agrees(heap, &mut ledger, &tight_blocks(heap)?, &FILLING)
 }
 
@@ -89,7 +89,7 @@ fn coins_after(
     cells: &mut [(Outpoint, Coin)],
     flush: bool,
 ) -> Result<Vec<(Outpoint, Coin)>, Fail> {
-    let mut ledger = Ledger::new(cached_table(heap, cells)?, Badge);
+    let mut ledger = Ledger::new(cached_table(cells), Badge);
     agrees(heap, &mut ledger, &mixed_blocks(heap)?, &UNFLUSHED)?;
     if flush {
         check(ledger.flush().is_ok(), "flush")?;
