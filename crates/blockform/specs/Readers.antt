@@ -1,5 +1,5 @@
 -- What a reader still has to hand out.
-use Rattle.std.specs.Prelude.{◌≡◌, ℕ, ◌+◌, ◌≤◌, true, List, map, length, is_ok}
+use Rattle.std.specs.Prelude.{◌≡◌, ℕ, ◌+◌, ◌≤◌, true, List, [], ◌∷◌, map, length, is_ok, Option, MatchOption}
 use Rattle.blockbytes.specs.Form.{times, item, transaction, block}
 use Rattle.blockform.specs.declared.reader.Item.{Item}
 use Rattle.blockform.specs.declared.reader.Item.TheVariants.{Input, Output}
@@ -7,7 +7,7 @@ use Rattle.blockform.specs.declared.reader.Items.{Items}
 use Rattle.blockform.specs.declared.reader.Transaction.{Transaction}
 use Rattle.blockform.specs.declared.reader.Transactions.{Transactions}
 use Rattle.blockform.specs.declared.reader.Block.{Block}
-use Rattle.blockbytes.specs.Value.{TransactionValue, BlockValue, Piece, spends, makes, encode_all, encode_input}
+use Rattle.blockbytes.specs.Value.{TransactionValue, BlockValue, Piece, spends, makes, encode_all, encode_input, encode_transaction}
 use Rattle.blockbytes.specs.Places.{list_at, item_at, item_end, transaction_at, transaction_end, block_at}
 
 abbrev pub piece_of : Item → Piece
@@ -66,3 +66,7 @@ pub record Hands (t : Transaction) (v : TransactionValue) : Type 0 where
   pub outputs : items_of t.outputs ≡ map makes v.outputs
   pub first_output : next_item t.outputs ≡ t.offset + 33 + length (encode_all encode_input v.inputs) + 1
   pub good_outputs : ItemsGood t.outputs
+
+-- the first of some transactions was handed out, with its place and the place of the next; or none was left
+abbrev pub HandsFirst : Transactions → Option Transaction → Transactions → Type 0
+HandsFirst s r t = MatchOption r ((transactions_of s ≡ []) × (transactions_of t ≡ [])) (λ x. (v : TransactionValue) × Hands x v × (transactions_of s ≡ v ∷ transactions_of t) × (next_transaction t ≡ next_transaction s + length (encode_transaction v)) × (x.offset ≡ next_transaction s))
