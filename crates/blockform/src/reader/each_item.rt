@@ -1,6 +1,6 @@
 // Inputs and outputs, handed out one after another.
 ghost use Rattle.std.specs.Prelude.{◌≡◌, ◌+◌, ◌≤◌, length, IfSome};
-ghost use Rattle.std.specs.Iterator.{MakesProgress, YieldsFirstBy, item_count};
+ghost use Rattle.std.specs.Iterator.{YieldsFirstBy, item_count};
 ghost use Rattle.blockbytes.specs.Value.{encode_piece, PieceWithin};
 ghost use Rattle.blockform.specs.Readers.{items_of, piece_of, offset_of, next_item, ItemsGood};
 
@@ -28,7 +28,6 @@ impl<'a> Iterator for Items<'a> {
     fn next(&mut self) -> Option<Item<'a>>
         ensures good { ItemsGood self.new }
         ensures hands { YieldsFirstBy piece_of items_of self.old result self.new }
-        ensures goes { MakesProgress (λ _. Unit {0}) (item_count items_of) self.old result self.new }
         ensures offset { IfSome result (λ i. (offset_of i ≡ next_item self.old) × (next_item self.new ≡ next_item self.old + length (encode_piece (piece_of i)))) }
         ensures within { IfSome result (λ i. PieceWithin (piece_of i)) }
     {

@@ -1,6 +1,6 @@
 // Transactions, handed out one after another.
 ghost use Rattle.std.specs.Prelude.{◌≡◌, ◌≤◌, length};
-ghost use Rattle.std.specs.Iterator.{MakesProgress, item_count};
+ghost use Rattle.std.specs.Iterator.{item_count};
 ghost use Rattle.blockform.specs.Readers.{transactions_of, TransactionsGood, HandsFirst};
 
 use crate::reader::fields::{id_at, past_inputs};
@@ -27,7 +27,6 @@ impl<'a> Iterator for Transactions<'a> {
     fn next(&mut self) -> Option<Transaction<'a>>
         ensures good { TransactionsGood self.new }
         ensures hands { HandsFirst self.old result self.new }
-        ensures goes { MakesProgress (λ _. Unit {0}) (item_count transactions_of) self.old result self.new }
     {
         if self.left == 0 {
             return None;

@@ -10,7 +10,7 @@ unfolding items_of
 returns-then-self-eq0 c =
     let r = c.args.self.now in
     let e = list_none (item_at r.inputs r.block.now) (item_end r.inputs r.block.now) r.left r.place c.if-self-eq0.true in
-    record { good = items_good _; hands = (e, e); goes = search rules; offset = tt; within = tt }
+    record { good = items_good _; hands = (e, e); offset = tt; within = tt }
 
 pub item-end-requires : goal.item-end-requires
 item-end-requires c =
@@ -33,7 +33,6 @@ returns c =
     record {
       good = items_good _;
       hands = e;
-      goes = record { on = λ _. (tt, tt, omega (arith, ap length e)); keeps = tt; rests = λ _. tt };
       offset = (c.item-end.ensures.offset, c.item-end.ensures.long);
       within = c.item-end.ensures.within;
     }

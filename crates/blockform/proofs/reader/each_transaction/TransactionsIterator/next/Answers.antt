@@ -12,7 +12,7 @@ unfolding transactions_of
 returns-then-self-eq0 c =
     let r = c.args.self.now in
     let e = list_none (transaction_at r.block.now) (transaction_end r.block.now) r.left r.place c.if-self-eq0.true in
-    record { good = transactions_good _; hands = (e, e); goes = search rules }
+    record { good = transactions_good _; hands = (e, e) }
 
 pub id_at-id-requires : goal.id_at-id-requires
 id_at-id-requires c = omega (arith, (next_found c.args.self.now c.if-self-eq0.false).id)
@@ -77,7 +77,6 @@ returns c =
     let taken = list_taken (transaction_at b) (transaction_end b) r.left at _ _ (omega arith) refl end in
     record {
       good = transactions_good _;
-      goes = record { on = λ _. (tt, tt, omega (arith, ap length taken)); keeps = tt; rests = λ _. tt };
       hands = (
         transaction_at b at,
         record {
