@@ -1,7 +1,7 @@
 // Transactions, handed out one after another.
 ghost use Rattle.std.specs.Prelude.{◌≡◌, ◌≤◌, length};
 ghost use Rattle.std.specs.Iterator.{item_count};
-ghost use Rattle.blockform.specs.Readers.{transactions_of, TransactionsGood, HandsFirst};
+ghost use Rattle.blockform.specs.Readers.{transactions_of, HandsTransaction};
 
 use crate::reader::fields::{id_at, past_inputs};
 use crate::reader::{Items, Transaction, Transactions};
@@ -19,15 +19,12 @@ impl<'a> Transactions<'a> {
 impl<'a> Iterator for Transactions<'a> {
     type Item = Transaction<'a>;
 
-    ghost next_gives = { HandsFirst };
+    ghost next_gives = { HandsTransaction };
 
     ghost remaining = { item_count transactions_of };
 
     // The next transaction; `None` after the last.
-    fn next(&mut self) -> Option<Transaction<'a>>
-        ensures good { TransactionsGood self.new }
-        ensures hands { HandsFirst self.old result self.new }
-    {
+    fn next(&mut self) -> Option<Transaction<'a>> {
         if self.left == 0 {
             return None;
         }

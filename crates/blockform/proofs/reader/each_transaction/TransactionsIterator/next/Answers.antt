@@ -1,10 +1,11 @@
-use Rattle.std.proofs.Common.{◌≡◌, ◌+◌, ◌*◌, length, get_or, is_ok, refl, ap, ◌∙◌, arith, rules}
+use Rattle.std.proofs.Common.{Some, None, ◌≡◌, ◌+◌, ◌*◌, get_or, is_ok, refl, ap, ◌∙◌, arith}
 use Rattle.blockbytes.specs.Form.{times, output, transaction}
 use Rattle.blockbytes.specs.Value.{spends, makes}
 use Rattle.blockbytes.specs.Places.{list_at, input_at, input_end, inputs_end, output_at, output_end, transaction_at, transaction_end}
-use Rattle.blockform.specs.Readers.{items_of, next_item, transactions_of, next_transaction, items_good, transactions_good}
+use Rattle.blockform.specs.Readers.{items_of, next_item, transactions_of, next_transaction, items_good}
 use Rattle.blockbytes.proofs.Steps.{list_none, list_taken, times_taken, map_list, transaction_ends}
 use Rattle.blockform.proofs.Walk.{next_found, inputs_long, transaction_long}
+use Rattle.blockform.proofs.Nearer.{nearer}
 use Rattle.blockform.proofs.reader.each_transaction.TransactionsIterator.next.Goals as goal
 
 pub returns-then-self-eq0 : goal.returns-then-self-eq0
@@ -12,7 +13,7 @@ unfolding transactions_of
 returns-then-self-eq0 c =
     let r = c.args.self.now in
     let e = list_none (transaction_at r.block.now) (transaction_end r.block.now) r.left r.place c.if-self-eq0.true in
-    record { good = transactions_good _; hands = (e, e) }
+    record { steps = (e, e); goes = nearer transactions_of _ _ None tt }
 
 pub id_at-id-requires : goal.id_at-id-requires
 id_at-id-requires c = omega (arith, (next_found c.args.self.now c.if-self-eq0.false).id)
@@ -76,8 +77,7 @@ returns c =
     let end : c.past_inputs-end.result + 1 + 17 * get_or b c.past_inputs-end.result 0 ≡ transaction_end b at = omega (arith, f.end) in
     let taken = list_taken (transaction_at b) (transaction_end b) r.left at _ _ (omega arith) refl end in
     record {
-      good = transactions_good _;
-      hands = (
+      steps = (
         transaction_at b at,
         record {
           id = c.id_at-id.ensures;
@@ -92,4 +92,5 @@ returns c =
         end ∙ transaction_long b r.left at f,
         refl,
       );
+      goes = nearer transactions_of _ _ (Some _) (_, taken);
     }
