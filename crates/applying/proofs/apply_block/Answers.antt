@@ -3,7 +3,7 @@ use Rattle.std.proofs.lemmas.Result.{err_from_is_err_and}
 use Rattle.undo.specs.Entries.{entries}
 use Rattle.blockform.specs.declared.reader.Transaction.{Transaction}
 use Rattle.blockform.specs.Value.{TransactionValue, All}
-use Rattle.blockform.specs.Readers.{transactions_of, block_of, Hands}
+use Rattle.blockform.specs.Readers.{transactions_of, block_of, Hands, transactions_good}
 use Rattle.connecting.specs.Subsidy.{subsidy_at}
 use Rattle.connecting.specs.Applied.{setting, value_of, Moneyed}
 use Rattle.connecting.specs.Rules.{worth, transactions_needs, none, spending_all}
@@ -17,13 +17,13 @@ first_is t v bs ts us e h is = let o = opened t v ts us h is in (sym e ∙ o.is,
 
 pub outputs_worth-claimed-requires : goal.outputs_worth-claimed-requires
 outputs_worth-claimed-requires g c =
-    let h = c.in-Some.ensures.hands in
+    let h = c.in-Some.ensures.steps in
     let f = first_is c.in-Some.first h.0 (block_of c.args.block.now).transactions (transactions_of c.transactions-others.result) (transactions_of c.next.new.self) c.transactions-others.ensures.all h.1 h.2 in
     record { good = f.1.good.1; money = (subst (All Moneyed) f.0 c.requires.money).0 }
 
 pub apply_coinbase-requires : goal.apply_coinbase-requires
 apply_coinbase-requires g c =
-    let h = c.in-Some.ensures.hands in
+    let h = c.in-Some.ensures.steps in
     let f = first_is c.in-Some.first h.0 (block_of c.args.block.now).transactions (transactions_of c.transactions-others.result) (transactions_of c.next.new.self) c.transactions-others.ensures.all h.1 h.2 in
     record { well = c.requires.well; good = f.1.good.1; money = (subst (All Moneyed) f.0 c.requires.money).0; room = omega (arith, ap transactions_needs f.0, c.requires.room) }
 
@@ -33,7 +33,7 @@ returns-in_err-made g c =
     let a = c.args in
     let x = value_of c.in-Some.first in
     let us = transactions_of c.next.new.self in
-    let h = c.in-Some.ensures.hands in
+    let h = c.in-Some.ensures.steps in
     let is = (first_is c.in-Some.first h.0 (block_of a.block.now).transactions (transactions_of c.transactions-others.result) us c.transactions-others.ensures.all h.1 h.2).0 in
     let e = c.in_err-made.ensures in
     let t = effect_unmade (setting (v.most a.view.now) (g.C.SpendCondition.opens a.condition.now) a.site) a.site.height x (block_of a.block.now).transactions us (v.coins a.view.now) is c.in_err-made.field-0.0 e.value in
@@ -42,10 +42,10 @@ returns-in_err-made g c =
 
 pub apply_others-requires : goal.apply_others-requires
 apply_others-requires g c =
-    let h = c.in-Some.ensures.hands in
+    let h = c.in-Some.ensures.steps in
     let f = first_is c.in-Some.first h.0 (block_of c.args.block.now).transactions (transactions_of c.transactions-others.result) (transactions_of c.next.new.self) c.transactions-others.ensures.all h.1 h.2 in
     let e = c.in_ok-made.ensures in
-    record { well = e.well; good = c.next.ensures.good; money = (subst (All Moneyed) f.0 c.requires.money).1; room = omega (arith, ap transactions_needs f.0, c.requires.room, e.long) }
+    record { well = e.well; good = transactions_good _; money = (subst (All Moneyed) f.0 c.requires.money).1; room = omega (arith, ap transactions_needs f.0, c.requires.room, e.long) }
 
 pub returns-in_err-sums : goal.returns-in_err-sums
 returns-in_err-sums g c =
@@ -53,7 +53,7 @@ returns-in_err-sums g c =
     let a = c.args in
     let x = value_of c.in-Some.first in
     let us = transactions_of c.next.new.self in
-    let h = c.in-Some.ensures.hands in
+    let h = c.in-Some.ensures.steps in
     let is = (first_is c.in-Some.first h.0 (block_of a.block.now).transactions (transactions_of c.transactions-others.result) us c.transactions-others.ensures.all h.1 h.2).0 in
     let e = c.in_ok-made.ensures in
     let q = c.in_err-sums.ensures in
@@ -71,7 +71,7 @@ returns-then-claimed-due g c =
     let a = c.args in
     let x = value_of c.in-Some.first in
     let us = transactions_of c.next.new.self in
-    let h = c.in-Some.ensures.hands in
+    let h = c.in-Some.ensures.steps in
     let is = (first_is c.in-Some.first h.0 (block_of a.block.now).transactions (transactions_of c.transactions-others.result) us c.transactions-others.ensures.all h.1 h.2).0 in
     let e = c.in_ok-made.ensures in
     let q = c.in_ok-sums.ensures in
@@ -99,7 +99,7 @@ returns g c =
     let a = c.args in
     let x = value_of c.in-Some.first in
     let us = transactions_of c.next.new.self in
-    let h = c.in-Some.ensures.hands in
+    let h = c.in-Some.ensures.steps in
     let is = (first_is c.in-Some.first h.0 (block_of a.block.now).transactions (transactions_of c.transactions-others.result) us c.transactions-others.ensures.all h.1 h.2).0 in
     let e = c.in_ok-made.ensures in
     let q = c.in_ok-sums.ensures in

@@ -2,7 +2,7 @@ use Rattle.std.proofs.Common.{◌≡◌, ◌+◌, ◌*◌, ◌≤◌, ◌∷◌,
 use Rattle.std.proofs.lemmas.Result.{err_from_is_err_and}
 use Rattle.undo.specs.Entries.{entries}
 use Rattle.blockform.specs.Value.{All}
-use Rattle.blockform.specs.Readers.{transactions_of}
+use Rattle.blockform.specs.Readers.{transactions_of, transactions_good}
 use Rattle.blockform.proofs.Few.{transactions_few}
 use Rattle.connecting.specs.declared.block.Sums.{Sums}
 use Rattle.connecting.specs.Applied.{setting, value_of, Moneyed, spending_needs}
@@ -17,7 +17,7 @@ loop-tx-init g c = let few = transactions_few c.args.others c.requires.good in s
 pub apply_spending-requires : goal.apply_spending-requires
 apply_spending-requires g c =
     let l = c.loop-tx in
-    let h = c.in-Some.ensures.hands in
+    let h = c.in-Some.ensures.steps in
     let o = opened c.in-Some.tx h.0 (transactions_of l.others) (transactions_of c.next.new.self) h.1 h.2 in
     let moneyed : All Moneyed (value_of c.in-Some.tx ∷ transactions_of c.next.new.self) = subst (All Moneyed) o.is l.invariant.4 in
     record { well = l.invariant.0; good = o.good; whole = o.whole; money = moneyed.0; room = omega (arith, ap others_needs o.is, l.invariant.5, c.requires.room) }
@@ -29,7 +29,7 @@ loop-tx-preserved g c =
     let l = c.loop-tx in
     let x = value_of c.in-Some.tx in
     let us = transactions_of c.next.new.self in
-    let h = c.in-Some.ensures.hands in
+    let h = c.in-Some.ensures.steps in
     let o = opened c.in-Some.tx h.0 (transactions_of l.others) us h.1 h.2 in
     let room = v.most a.view.now in
     let opens = g.C.SpendCondition.opens a.condition.now in
@@ -38,7 +38,7 @@ loop-tx-preserved g c =
     let value = subst (λ k. MatchResult c.apply_spending.result (λ b. spending (setting k opens a.site) a.site.height x (v.coins l.view) ≡ Ok (v.coins c.apply_spending.new.view, b)) (λ f. spending (setting k opens a.site) a.site.height x (v.coins l.view) ≡ Err f)) l.invariant.1 c.apply_spending.ensures.value in (
       c.apply_spending.ensures.well,
       c.apply_spending.ensures.fixed ∙ l.invariant.1,
-      c.next.ensures.good,
+      transactions_good _,
       omega (arith, l.invariant.3, ap length o.is),
       (let moneyed : All Moneyed (x ∷ us) = subst (All Moneyed) o.is l.invariant.4 in moneyed.1),
       omega (arith, l.invariant.5, long, ap others_needs o.is),
@@ -57,7 +57,7 @@ returns-in_err-one g c =
     let l = c.loop-tx in
     let x = value_of c.in-Some.tx in
     let us = transactions_of c.next.new.self in
-    let h = c.in-Some.ensures.hands in
+    let h = c.in-Some.ensures.steps in
     let o = opened c.in-Some.tx h.0 (transactions_of l.others) us h.1 h.2 in
     let room = v.most a.view.now in
     let opens = g.C.SpendCondition.opens a.condition.now in

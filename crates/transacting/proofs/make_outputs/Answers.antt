@@ -1,7 +1,7 @@
 use Rattle.std.proofs.Common.{◌≡◌, ◌+◌, ◌∷◌, length, sym, refl, ap, ◌∙◌, subst, arith, rules}
 use Rattle.undo.specs.Entries.{entries}
 use Rattle.blockform.specs.Value.{OutputValue, makes}
-use Rattle.blockform.specs.Readers.{items_of}
+use Rattle.blockform.specs.Readers.{items_of, items_good}
 use Rattle.blockform.proofs.Few.{items_few}
 use Rattle.connecting.specs.Parts.{outputs_in}
 use Rattle.connecting.specs.Rules.{make_all}
@@ -20,7 +20,7 @@ loop-value-preserved g c =
     let y : OutputValue = record { value = c.in-Some-Output.value; lock = c.in-Some-Output.lock } in
     let ps = items_of l.outputs in
     let qs = items_of c.next.new.self in
-    let hands : items_of l.outputs ≡ makes y ∷ items_of c.next.new.self = let h = c.in-Some-Output.ensures.hands in search rules in
+    let hands : items_of l.outputs ≡ makes y ∷ items_of c.next.new.self = let h = c.in-Some-Output.ensures.steps.0 in search rules in
     let room = v.most a.view.now in
     let s = output_sums room a.site.height l.index a.tx.now.id.now a.coinbase y ps qs (v.coins l.view) hands in
     elim c.if-lock-eq0.branch [
@@ -28,7 +28,7 @@ loop-value-preserved g c =
           let t = output_burned room a.site.height l.index a.tx.now.id.now a.coinbase y ps qs (v.coins l.view) hands w.if-lock-eq0.true in (
             subst (λ z. v.ok z) (sym w.view-is) l.invariant.0,
             ap v.most w.view-is ∙ l.invariant.1,
-            c.next.ensures.good,
+            items_good _,
             omega (arith, l.invariant.3, s.1),
             omega (arith, l.invariant.4, w.made-is),
             omega (arith, l.invariant.5, s.0, w.burned-is),
@@ -44,7 +44,7 @@ loop-value-preserved g c =
           let k = output_counts room a.site.height l.index a.tx.now.id.now a.coinbase y ps qs (v.coins l.view) hands (v.most l.view) l.invariant.1 w.if-lock-eq0.false in (
             subst (λ z. v.ok z) (sym w.view-is) e.well,
             ap v.most w.view-is ∙ e.fixed ∙ l.invariant.1,
-            c.next.ensures.good,
+            items_good _,
             omega (arith, l.invariant.3, s.1),
             omega (arith, l.invariant.4, w.made-is),
             omega (arith, l.invariant.5, s.0, w.burned-is),
@@ -64,7 +64,7 @@ returns-in_err-make_one g c =
     let y : OutputValue = record { value = c.in-Some-Output.value; lock = c.in-Some-Output.lock } in
     let ps = items_of l.outputs in
     let qs = items_of c.next.new.self in
-    let hands : items_of l.outputs ≡ makes y ∷ items_of c.next.new.self = let h = c.in-Some-Output.ensures.hands in search rules in
+    let hands : items_of l.outputs ≡ makes y ∷ items_of c.next.new.self = let h = c.in-Some-Output.ensures.steps.0 in search rules in
     let room = v.most a.view.now in
     let e = c.in_err-make_one.ensures in
     let t = output_refused room a.site.height l.index a.tx.now.id.now a.coinbase y ps qs (v.coins l.view) hands (v.most l.view) l.invariant.1 c.if-lock-eq0.false c.in_err-make_one.field-0.0 e.value in
