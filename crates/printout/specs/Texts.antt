@@ -1,5 +1,6 @@
 -- The text of each line of the printout.
-use Rattle.std.specs.Prelude.{◌≡◌, ℕ, Bool, true, false, cond, List, [], ◌∷◌, ◌++◌, codes, decimal, ◌==◌}
+use Rattle.std.specs.Prelude.{◌≡◌, ℕ, Bool, true, false, not, List, [], ◌∷◌, ◌++◌, codes, decimal, ◌==◌}
+use Rattle.std.specs.List.{list_all}
 use Rattle.refusal.specs.Numbers.{number_of, word_of}
 use Rattle.refusal.specs.declared.Reason.TheVariants as reason
 use Rattle.refusal.specs.declared.Refusal.{Refusal}
@@ -37,8 +38,7 @@ ReadsAsPrinted =
 
 -- no byte is an LF
 abbrev pub lf_free : List ℕ → Bool
-lf_free [] = true
-lf_free (c ∷ cs) = cond (c == 10) false (lf_free cs)
+lf_free bs = list_all (λ c. not (c == 10)) bs
 
 -- Each line of the printout is one line.
 abbrev pub OneLineEach : Type 0

@@ -2,7 +2,7 @@
 #![tactic(auto)]
 
 ghost use Rattle.std.specs.Prelude.{◌≡◌, ◌++◌, Some, string_bytes, OnOk};
-ghost use Rattle.printout.specs.Texts.{clean_word, text_of, line_text, ReadsAsPrinted, OneLineEach};
+ghost use Rattle.printout.specs.Texts.{text_of, line_text, ReadsAsPrinted, OneLineEach};
 
 use refusal::Refusal;
 use std::alloc::AllocError;
@@ -32,13 +32,6 @@ pub enum Line {
     Refused(Refusal),
 }
 
-// "clean" where every undo entry found and restored its own coin.
-fn outcome(clean: bool) -> &'static str
-    ensures { result.now ≡ clean_word clean }
-{
-    if clean { "clean" } else { "unclean" }
-}
-
 impl fmt::Display for Line {
     ghost output = { λ x. Some (text_of x) };
 
@@ -57,10 +50,14 @@ impl fmt::Display for Line {
                     "connect {height} made {made} spent {spent} fee {fee} burned {burned}"
                 )
             }
-            Line::Disconnect { height, clean } => {
-                let word = outcome(clean);
-                write!(f, "disconnect {height} {word}")
-            }
+            Line::Disconnect {
+                height,
+                clean: true,
+            } => write!(f, "disconnect {height} clean"),
+            Line::Disconnect {
+                height,
+                clean: false,
+            } => write!(f, "disconnect {height} unclean"),
             Line::Balance {
                 kind,
                 argument,
@@ -74,9 +71,12 @@ impl fmt::Display for Line {
                     second,
                 },
             ) => {
-                let number = reason.number();
-                let word = reason.word();
-                write!(f, "refused {number} {word} {first} {second}")
+                write!(
+                    f,
+                    "refused {} {} {first} {second}",
+                    reason.number(),
+                    reason.word()
+                )
             }
         }
     }
@@ -86,22 +86,15 @@ impl fmt::Display for Line {
 pub fn append(out: &mut String, line: Line) -> Result<(), AllocError>
     ensures { OnOk result (string_bytes out.new ≡ string_bytes out.old ++ line_text line) }
 {
-    match writeln!(out, "{line}") {
-        Ok(()) => Ok(()),
-        Err(_) => Err(AllocError),
-    }
+    writeln!(out, "{line}")
 }
 
 // The theorem that the lines of a first lesson read as it prints them.
-pub fn reads_as_printed() -> u8
+pub fn reads_as_printed()
     ensures { ReadsAsPrinted }
-{
-    0
-}
+{}
 
 // The theorem that the text of a line has no LF.
-pub fn one_line_each() -> u8
+pub fn one_line_each()
     ensures { OneLineEach }
-{
-    0
-}
+{}

@@ -1,4 +1,3 @@
+mod Digits
 mod Formed
-mod Grows
-mod Passed
 mod Written

@@ -1,6 +1,7 @@
 // The command that a line of a script is, decided by its first character.
-ghost use Rattle.std.specs.Prelude.{◌≡◌, ℕ, ◌<◌, ◌≤◌, Some, None, MatchOption};
-ghost use Rattle.script.specs.Commands.{value_after, after_digits, operand_of, whole, start_of, balance_of, command_of};
+ghost use Rattle.std.specs.Prelude.{◌≡◌, Some, None, MatchOption};
+ghost use Rattle.std.specs.List.{prefix_len};
+ghost use Rattle.script.specs.Commands.{digit, numeral_of, operand_of, whole, start_of, balance_of, command_of};
 ghost use Rattle.script.specs.Forms.{ReadsEachForm};
 
 #[derive(Clone, Copy, PartialEq, Eq, Debug)]
@@ -18,42 +19,38 @@ pub enum Command {
     },
 }
 
-// The number that the digits at the front write, and what stands after them. None where it needs more than 64 bits.
-fn digits(bytes: &[u8]) -> Option<(u64, &[u8])>
-    ensures { MatchOption result (18446744073709551616 ≤ value_after 0 bytes.now) (λ p. (p.0 ≡ value_after 0 bytes.now) × (p.1.now ≡ after_digits bytes.now)) }
+// How many digits stand at the front.
+fn digit_count(bytes: &[u8]) -> usize
+    ensures { result ≡ prefix_len digit bytes.now }
 {
-    let mut value = 0u64;
-    let mut rest = bytes;
-    while let Some((byte, tail)) = rest.split_first() {
-        if *byte < b'0' || *byte > b'9' {
-            return Some((value, rest));
-        }
-        value = value.checked_mul(10)?.checked_add(u64::from(*byte - b'0'))?;
-        rest = tail;
-    }
+    bytes
+        .iter()
+        .take_while(|byte| byte.is_ascii_digit())
+        .count()
+}
+
+// The number that the digits at the front write, and what stands after them. None where there is no digit, or the number needs more than 64 bits.
+fn numeral(bytes: &[u8]) -> Option<(u64, &[u8])>
+    ensures { MatchOption result (numeral_of bytes.now ≡ None) (λ p. numeral_of bytes.now ≡ Some (p.0, p.1.now)) }
+{
+    let (digits, rest) = bytes.split_at(digit_count(bytes));
+    let value = str::from_utf8(digits).ok()?.parse().ok()?;
     Some((value, rest))
 }
 
 // One space and a number of at least one digit.
+#[tactic(auto, unfolding(crate::specs::Commands::operand_of))]
 fn operand(bytes: &[u8]) -> Option<(u64, &[u8])>
     ensures { MatchOption result (operand_of bytes.now ≡ None) (λ p. operand_of bytes.now ≡ Some (p.0, p.1.now)) }
 {
-    let (space, rest) = bytes.split_first()?;
-    let (first, _) = rest.split_first()?;
-    if *space != b' ' || *first < b'0' || *first > b'9' {
-        return None;
-    }
-    digits(rest)
+    numeral(bytes.strip_prefix(b" ")?)
 }
 
 // The command, where nothing follows it.
 fn finish(command: Command, rest: &[u8]) -> Option<Command>
     ensures { result ≡ whole rest.now command }
 {
-    match rest {
-        [] => Some(command),
-        _ => None,
-    }
+    rest.is_empty().then_some(command)
 }
 
 fn start(rest: &[u8]) -> Option<Command>
@@ -76,22 +73,16 @@ fn balance(rest: &[u8]) -> Option<Command>
     ensures { result ≡ balance_of rest.now }
 {
     let (kind, rest) = operand(rest)?;
-    if kind > 255 {
-        return None;
-    }
+    let kind = u8::try_from(kind).ok()?;
     let (argument, rest) = operand(rest)?;
-    finish(
-        Command::Balance {
-            kind: kind as u8,
-            argument,
-        },
-        rest,
-    )
+    finish(Command::Balance { kind, argument }, rest)
 }
 
-// The first character decides.
-fn by_first_character(line: &[u8]) -> Option<Command>
-    ensures { result ≡ command_of line.now }
+// The command of a line, decided by its first character, or None where the line has no command's form.
+#[tactic(auto, using(crate::proofs::Formed::each_form))]
+pub fn parse_line(line: &[u8]) -> Option<Command>
+    ensures value { result ≡ command_of line.now }
+    ensures forms { ReadsEachForm }
 {
     let (first, rest) = line.split_first()?;
     match char::from(*first) {
@@ -101,12 +92,4 @@ fn by_first_character(line: &[u8]) -> Option<Command>
         '?' => balance(rest),
         _ => None,
     }
-}
-
-// The command of a line, or None where the line has no command's form.
-pub fn parse_line(line: &[u8]) -> Option<Command>
-    ensures value { result ≡ command_of line.now }
-    ensures forms { ReadsEachForm }
-{
-    by_first_character(line)
 }

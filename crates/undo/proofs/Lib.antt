@@ -1,1 +1,1 @@
-pub mod Kept
+mod Kept

@@ -1,11 +1,11 @@
 -- The entries of the undo memory, chained newest first.
-use Rattle.std.specs.Prelude.{ℕ, zero, suc, Bool, true, false, cond, List, [], ◌∷◌, reverse, length, take, nat_lt}
+use Rattle.std.specs.Prelude.{ℕ, zero, suc, Bool, true, false, cond, List, [], ◌∷◌, reverse, length, nat_lt}
 use Rattle.undo.specs.declared.Record.{Record}
 use Rattle.undo.specs.declared.Record.TheVariants.{Mark, Made, Spent}
 use Rattle.undo.specs.declared.Undo.{Undo}
 
 unfoldable pub entries : Undo → List Record
-entries u = reverse (take u.len u.cells)
+entries u = reverse u.records.items
 
 -- one entry more, unless there are 512
 abbrev pub pushed : Record → List Record → List Record

@@ -1,16 +1,19 @@
 // The calls on the undo memory.
-ghost use Rattle.std.specs.Prelude.{◌≡◌, ℕ, ◌+◌, ◌-◌, ◌<◌, ◌≤◌, cond, [], ◌∷◌, length, take, is_ok, MatchOption, nat_lt};
+#![tactic(auto, unfolding(crate::specs::Entries::entries))]
+
+ghost use Rattle.std.specs.Prelude.{◌≡◌, ◌+◌, ◌-◌, ◌<◌, ◌≤◌, true, false, [], ◌∷◌, reverse, length, drop, is_ok, MatchOption, nat_lt};
+ghost use Rattle.std.specs.List.{All, AllWithin, HoldsAt};
 ghost use Rattle.undo.specs.Entries.{entries, pushed, mark, newest};
 
 use super::{LogFull, Record, Undo};
+use arrayvec::ArrayVec;
 
 impl Undo {
     pub fn new() -> Undo
         ensures { entries result ≡ [] }
     {
         Undo {
-            cells: [Record::Mark([0; 32]); 512],
-            len: 0,
+            records: ArrayVec::new(),
         }
     }
 
@@ -18,7 +21,7 @@ impl Undo {
     pub fn free(&self) -> usize
         ensures { result ≡ 512 - length (entries self.now) }
     {
-        512 - self.len
+        self.records.remaining_capacity()
     }
 
     // One entry more, the newest, unless all are taken.
@@ -26,52 +29,39 @@ impl Undo {
         ensures room { is_ok result ≡ nat_lt (length (entries self.old)) 512 }
         ensures after { entries self.new ≡ pushed «record» (entries self.old) }
     {
-        let n = self.len;
-        if n >= 512 {
-            return Err(LogFull);
-        }
-        self.cells[n] = record;
-        self.len = n + 1;
-        Ok(())
+        self.records.try_push(record).map_err(|_| LogFull)
     }
 
     // Takes the newest entry off.
     pub fn pop(&mut self) -> Option<Record>
         ensures { MatchOption result ((entries self.old ≡ []) × (entries self.new ≡ [])) (λ x. entries self.old ≡ x ∷ entries self.new) }
     {
-        if self.len == 0 {
-            return None;
-        }
-        self.len -= 1;
-        Some(self.cells[self.len])
+        self.records.pop()
     }
 
     // Where the entries of the newest blocks begin.
     fn start_of(&self, blocks: usize) -> usize
-        ensures within { result ≤ self.now.len }
-        ensures place { newest blocks (entries self.now) ≡ take (self.now.len - result) (entries self.now) }
+        ensures within { result ≤ length self.now.records.items }
+        ensures place { newest blocks (entries self.now) ≡ reverse (drop result self.now.records.items) }
     {
-        let mut at = self.len;
-        let mut left = blocks;
-        while at > 0 && left > 0 {
-            at -= 1;
-            if is_mark(&self.cells[at]) {
-                left -= 1;
-            }
+        let mut at = self.records.len();
+        for _block in 0..blocks {
+            let Some(mark) = last_mark(&self.records[..at]) else {
+                return 0;
+            };
+            at = mark;
         }
         at
     }
 
     // Frees the oldest `n` entries, and moves the others down.
     fn free_oldest(&mut self, n: usize)
-        requires { n ≤ self.old.len }
-        ensures { entries self.new ≡ take (self.old.len - n) (entries self.old) }
+        requires { n ≤ length self.old.records.items }
+        ensures { self.new.records.items ≡ drop n self.old.records.items }
     {
-        let kept = self.len - n;
-        for i in 0..kept {
-            self.cells[i] = self.cells[i + n];
-        }
-        self.len = kept;
+        let kept = self.records.len() - n;
+        self.records.copy_within(n.., 0);
+        self.records.truncate(kept);
     }
 
     // Keeps the entries of the newest blocks, and frees the others.
@@ -83,11 +73,11 @@ impl Undo {
     }
 }
 
-fn is_mark(record: &Record) -> bool
-    ensures { result ≡ mark «record».now }
+// The place of the last mark.
+fn last_mark(records: &[Record]) -> Option<usize>
+    ensures { MatchOption result (All (λ r. mark r ≡ false) records.now) (λ i. (i < length records.now) × HoldsAt (λ r. mark r ≡ true) records.now i × AllWithin (λ r. mark r ≡ false) records.now (i + 1) (length records.now)) }
 {
-    match record {
-        Record::Mark(_) => true,
-        _ => false,
-    }
+    records
+        .iter()
+        .rposition(|record| matches!(record, Record::Mark(_)))
 }

@@ -1,10 +1,12 @@
 // The undo memory: what each standing block took and made, so that the block can be taken back.
 #![tactic(auto)]
 
-ghost use Rattle.std.specs.Prelude.{◌≡◌, ◌≤◌, length};
+ghost use Rattle.std.specs.Prelude.{◌≡◌, replicate};
+ghost use Rattle.undo.specs.declared.Record.TheVariants.{Mark};
 
 mod chain;
 
+use arrayvec::ArrayVec;
 use coins::coin::Coin;
 use coins::outpoint::Outpoint;
 
@@ -16,14 +18,21 @@ pub enum Record {
     Spent(Outpoint, Coin),
 }
 
+// What an unused place holds.
+impl Default for Record {
+    ghost is_default = { λ r. r ≡ Mark (replicate 32 0) };
+
+    fn default() -> Record {
+        Record::Mark([0; 32])
+    }
+}
+
 // All entries are taken.
 #[derive(Clone, Copy, PartialEq, Eq, Debug)]
 pub struct LogFull;
 
-// 512 entries, the oldest first. A block's entries follow its mark.
+// At most 512 entries, the oldest first. A block's entries follow its mark.
 #[derive(Drop)]
 pub struct Undo {
-    cells: [Record; 512],
-    len: usize,
-    ghost within: { (length cells ≡ 512) × (len ≤ 512) },
+    records: ArrayVec<Record, 512>,
 }

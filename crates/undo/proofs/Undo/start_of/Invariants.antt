@@ -1,9 +1,10 @@
-use Rattle.std.proofs.Common.{◌≤◌}
-use Rattle.undo.proofs.Kept.{Passed}
+use Rattle.std.proofs.Common.{◌≡◌, ◌-◌, ◌≤◌, ◌++◌, reverse, length, take, drop}
+use Rattle.undo.specs.Entries.{newest}
 use Rattle.undo.proofs.Undo.start_of.Given as goal
 
-abbrev pub invariant-loop-at : goal.invariant-loop-at
-invariant-loop-at l = (l.at ≤ l.self.len) × Passed l.self.cells l.self.len l.blocks l.at l.left
-
-abbrev pub decreases-loop-at : goal.decreases-loop-at
-decreases-loop-at l = l.at
+abbrev pub invariant-loop-block : goal.invariant-loop-block
+invariant-loop-block l =
+    record {
+      within : l.at ≤ length l.self.records.items;
+      passed : newest l.blocks (reverse l.self.records.items) ≡ reverse (drop l.at l.self.records.items) ++ newest (l.blocks - l._block) (reverse (take l.at l.self.records.items));
+    }
