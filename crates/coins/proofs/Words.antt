@@ -2,11 +2,12 @@
 use Rattle.std.proofs.Common.{◌≡◌, ℕ, zero, suc, ◌+◌, ◌*◌, ◌<◌, ◌≤◌, List, [], ◌∷◌, map, length, get_or, take, drop, Ordering, Equal, sym, refl, ap, ◌∙◌, arith, length-drop, get_or-drop, drop-drop}
 use Rattle.std.proofs.lemmas.List.{drop_more, drop_all}
 use Rattle.std.proofs.lemmas.Bool.Decides.{nat_tests}
+use Rattle.std.proofs.lemmas.Map.Lookups.{exact_unsigned}
 use Rattle.std.specs.List.{range_with_len}
 use Rattle.std.specs.Ordering.{ordering_then, nat_cmp}
 use Rattle.std.specs.Cmp.Lexicographic.{slice_cmp}
 use Rattle.std.specs.Int.Digits.{number_from_digits_after}
-use Rattle.coins.proofs.Ordered.{then_first, rank_equal}
+use Rattle.coins.proofs.Ordered.{then_first}
 use Rattle.coins.specs.Words.{word_at}
 
 abbrev Bytes : List ℕ → Type 0
@@ -54,7 +55,7 @@ module _ (xs ys : List ℕ) (place : ℕ) (h : place + 8 ≤ length xs) (k : pla
 
   pub words_differ : (x ≡ y → ⊥) → slice_cmp nat_cmp (drop place xs) (drop place ys) ≡ nat_cmp x y
   words_differ n =
-      by_words ∙ then_first (nat_cmp x y) (slice_cmp nat_cmp (drop (place + 8) xs) (drop (place + 8) ys)) (λ e. n (rank_equal x y e))
+      by_words ∙ then_first (nat_cmp x y) (slice_cmp nat_cmp (drop (place + 8) xs) (drop (place + 8) ys)) (λ e. n (exact_unsigned x y e))
 
 pub none_left : (n : ℕ) (xs ys : List ℕ) → length xs ≤ n → length ys ≤ n → slice_cmp nat_cmp (drop n xs) (drop n ys) ≡ Equal
 none_left n xs ys h k = λ i. slice_cmp nat_cmp (drop_all n xs h i) (drop_all n ys k i)
