@@ -1,8 +1,8 @@
 -- The order of outpoints is total, and tells any two apart. Assumes nothing.
-use Rattle.std.proofs.Common.{◌≡◌, List, ℕ, Ordering, Less, Equal, Greater, refl, arith}
-use Rattle.std.specs.Cmp.{tied_itself}
+use Rattle.std.proofs.Common.{◌≡◌, List, ℕ, Ordering, Less, Equal, Greater, refl, subst, Decides, arith}
+use Rattle.std.specs.Cmp.{Equal-is, tied_itself}
 use Rattle.std.specs.Cmp.Lexicographic.{slice_cmp, nat_list_cmp_total}
-use Rattle.std.specs.Ordering.{ordering_then, ordering_reverse, nat_cmp}
+use Rattle.std.specs.Ordering.{ordering_then, ordering_reverse, is_eq, nat_cmp}
 use Rattle.std.proofs.lemmas.Map.Lookups.{exact_bytes, exact_unsigned}
 use Rattle.coins.specs.declared.outpoint.Outpoint.{Outpoint}
 use Rattle.coins.specs.Order.{order}
@@ -29,6 +29,9 @@ order_equal x y h =
     let p : x.id ≡ y.id = grind arith in
     let q : x.index ≡ y.index = grind arith in
     λ i. record { id = p i; index = q i }
+
+pub order_decides : (x y : Outpoint) → Decides (is_eq (order x y)) (x ≡ y)
+order_decides x y = (λ h. order_equal x y ((Equal-is (order x y)).0 h), λ e. (Equal-is (order x y)).1 (subst (λ z. order x z ≡ Equal) e (order_itself x)))
 
 pub order_flip : (x y : Outpoint) → order x y ≡ ordering_reverse (order y x)
 order_flip = order_is_total.antisymm
