@@ -1,37 +1,33 @@
 -- Locks and coins that are the same in each part are equal. Assumes nothing.
-use Rattle.std.proofs.Common.{◌≡◌, ℕ, ◌≤◌, Bool, true, false, ◌&&◌, eqb, sym, refl, subst, arith}
+use Rattle.std.proofs.Common.{◌≡◌, ◌≤◌, Bool, true, false, ◌==◌, sym, refl, subst}
 use mathlib.Core.Path.{to_path_p}
 use native.Mathlib.Bridge.{le_prop}
-use Rattle.std.proofs.lemmas.Bool.Decides.{nat_tests}
+use Rattle.std.specs.Cmp.{unsigned_Decides, first_so, second_so}
+use Rattle.std.specs.Cmp.Derive.{both_true}
 use Rattle.coins.specs.declared.coin.Coin.{Coin}
 use Rattle.coins.specs.declared.coin.Lock.{Lock}
 use Rattle.coins.specs.Same.{same_flag, same_lock, same_coin, SameIsEqual}
-use Rattle.coins.specs.Comparisons.{locks_equiv, coins_equiv}
-
-both : (a b : Bool) → (a && b) ≡ true → (a ≡ true) × (b ≡ true)
-both true b h = (refl, h)
-both false b h = (h, grind arith)
 
 flag_equal : (a b : Bool) → same_flag a b ≡ true → a ≡ b
 flag_equal true b h = sym h
 flag_equal false true h = h
 flag_equal false false h = refl
 
-number_equal : (a b : ℕ) → eqb a b ≡ true → a ≡ b
-number_equal a b h = grind (arith, nat_tests)
+flag_itself : (a : Bool) → same_flag a a ≡ true
+flag_itself true = refl
+flag_itself false = refl
 
-pub lock_itself : (x : Lock) → same_lock x x ≡ true
-lock_itself = locks_equiv.refl
+lock_itself : (x : Lock) → same_lock x x ≡ true
+lock_itself x = both_true ((unsigned_Decides x.kind x.kind).1 refl) ((unsigned_Decides x.argument x.argument).1 refl)
 
 lock_equal : (x y : Lock) → same_lock x y ≡ true → x ≡ y
 lock_equal x y h =
-    let p = both (eqb x.kind y.kind) (eqb x.argument y.argument) h in
-    let k = number_equal x.kind y.kind p.0 in
-    let a = number_equal x.argument y.argument p.1 in
+    let k = (unsigned_Decides x.kind y.kind).0 (first_so _ _ h) in
+    let a = (unsigned_Decides x.argument y.argument).0 (second_so (x.kind == y.kind) _ h) in
     λ i. record { kind = k i; argument = a i }
 
 pub coin_itself : (x : Coin) → same_coin x x ≡ true
-coin_itself = coins_equiv.refl
+coin_itself x = both_true ((unsigned_Decides x.value x.value).1 refl) (both_true (lock_itself x.lock) (both_true ((unsigned_Decides x.height x.height).1 refl) (flag_itself x.coinbase)))
 
 -- coins with equal parts
 pub coin_parts : (x y : Coin) → x.value ≡ y.value → x.lock ≡ y.lock → x.height ≡ y.height → x.coinbase ≡ y.coinbase → x ≡ y
@@ -41,10 +37,10 @@ coin_parts x y v l h c =
 
 coin_equal : (x y : Coin) → same_coin x y ≡ true → x ≡ y
 coin_equal x y e =
-    let p = both (eqb x.value y.value) _ e in
-    let q = both (same_lock x.lock y.lock) _ p.1 in
-    let r = both (eqb x.height y.height) _ q.1 in
-    coin_parts x y (number_equal _ _ p.0) (lock_equal _ _ q.0) (number_equal _ _ r.0) (flag_equal _ _ r.1)
+    let v = first_so (x.value == y.value) _ e in
+    let p = second_so (x.value == y.value) _ e in
+    let q = second_so (same_lock x.lock y.lock) _ p in
+    coin_parts x y ((unsigned_Decides _ _).0 v) (lock_equal _ _ (first_so _ _ p)) ((unsigned_Decides _ _).0 (first_so _ _ q)) (flag_equal _ _ (second_so (x.height == y.height) _ q))
 
 pub same_is_equal : SameIsEqual
 same_is_equal = (

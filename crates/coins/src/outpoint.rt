@@ -3,63 +3,55 @@ ghost use Rattle.std.specs.Prelude.{◌≡◌, ◌≤◌, Some, Decides, refl};
 ghost use Rattle.std.specs.Cmp.Lexicographic.{slice_cmp};
 ghost use Rattle.std.specs.Ordering.{is_eq, nat_cmp};
 ghost use Rattle.coins.specs.Order.{order, null_outpoint};
-ghost use Rattle.coins.specs.Words.{word_at};
+ghost use Rattle.coins.specs.Words.{word_at, words_of};
 ghost use Rattle.coins.specs.Comparisons.{order_is_total};
 ghost use Rattle.std.specs.Cmp.{partial_equiv_from_equiv, partial_order_from_total, eq_by_cmp_equiv};
 
 use std::cmp::Ordering;
 
+// Compared by words of eight bytes and not by a derive, which takes three times as many instructions.
 #[derive(Clone, Copy, Default, Debug)]
 pub struct Outpoint {
     pub id: [u8; 32],
     pub index: u32,
 }
 
-// Eight bytes of an identifier from a place on, as a number: the first byte weighs most. By halves, since those compile to one load.
+// Eight bytes of an identifier from a place on, as a number: the first byte weighs most.
 fn word(id: &[u8; 32], place: usize) -> u64
     requires { place ≤ 24 }
     ensures { result ≡ word_at id.now place }
 {
-    let high = u32::from_be_bytes([id[place], id[place + 1], id[place + 2], id[place + 3]]);
-    let low = u32::from_be_bytes([id[place + 4], id[place + 5], id[place + 6], id[place + 7]]);
-    high as u64 * 4_294_967_296 + low as u64
+    u64::from_be_bytes([
+        id[place],
+        id[place + 1],
+        id[place + 2],
+        id[place + 3],
+        id[place + 4],
+        id[place + 5],
+        id[place + 6],
+        id[place + 7],
+    ])
 }
 
-// The order of two identifiers, word by word.
+// An identifier's words, whose order is that of its bytes.
+fn words(id: &[u8; 32]) -> [u64; 4]
+    ensures { result ≡ words_of id.now }
+{
+    [word(id, 0), word(id, 8), word(id, 16), word(id, 24)]
+}
+
+// The order of two identifiers.
 fn compare_ids(a: &[u8; 32], b: &[u8; 32]) -> Ordering
     ensures { result ≡ slice_cmp nat_cmp a.now b.now }
 {
-    for k in 0..4 {
-        let x = word(a, 8 * k);
-        let y = word(b, 8 * k);
-        if x != y {
-            return x.cmp(&y);
-        }
-    }
-    Ordering::Equal
+    words(a).cmp(&words(b))
 }
 
-// The order of two output indexes.
-fn compare_indexes(a: u32, b: u32) -> Ordering
-    ensures { result ≡ nat_cmp a b }
+// Whether two identifiers are equal.
+fn same_ids(a: &[u8; 32], b: &[u8; 32]) -> bool
+    ensures { result ≡ is_eq (slice_cmp nat_cmp a.now b.now) }
 {
-    if a < b {
-        Ordering::Less
-    } else if a == b {
-        Ordering::Equal
-    } else {
-        Ordering::Greater
-    }
-}
-
-// Whether two outpoints agree in index and identifier.
-fn same(a: &Outpoint, b: &Outpoint) -> bool
-    ensures { result ≡ is_eq (order a.now b.now) }
-{
-    if a.index != b.index {
-        return false;
-    }
-    compare_ids(&a.id, &b.id).is_eq()
+    words(a) == words(b)
 }
 
 impl PartialEq for Outpoint {
@@ -71,7 +63,7 @@ impl PartialEq for Outpoint {
         ensures value { result ≡ is_eq (order self.now other.now) }
         ensures decides { Decides result (self.now ≡ other.now) }
     {
-        same(self, other)
+        self.index == other.index && same_ids(&self.id, &other.id)
     }
 }
 
@@ -99,7 +91,7 @@ impl Ord for Outpoint {
     ghost matches_eq = { λ _ _. refl };
 
     fn cmp(&self, other: &Outpoint) -> Ordering {
-        compare_ids(&self.id, &other.id).then(compare_indexes(self.index, other.index))
+        compare_ids(&self.id, &other.id).then(self.index.cmp(&other.index))
     }
 }
 

@@ -30,6 +30,10 @@ module _ {K V : Type 0} (o : Order K) where
   above_less j k [] l h = tt
   above_less j k (p ∷ m) l h = (o.trans j k p.0 l h.0, above_less j k m l h.1)
 
+  -- no key before all of a map's is in it
+  pub look_below : (q k : K) (m : List (K × V)) → Above o k m → o.cmp q k ≡ Less → look o q m ≡ None
+  look_below q k m a l = look_above q m (above_less q k m l a)
+
   pub above_insert : (j k : K) (v : V) (m : List (K × V)) → o.cmp j k ≡ Less → Above o j m → Above o j (insert o k v m)
   above_insert j k v [] l h = (l, tt)
   above_insert j k v (p ∷ m) l h = let ih = above_insert j k v m l h.1 in grind arith
@@ -58,8 +62,7 @@ module _ {K V : Type 0} (o : Order K) where
       let ih = look_remove_other k q m s.1 n in
       let e = o.equal k p.0 in
       let d = o.equal q p.0 in
-      let a = look_above q m in
-      let l = above_less q p.0 m in
+      let a = look_below q p.0 m s.0 in
       grind arith
 
   pub above_remove : (j k : K) (m : List (K × V)) → Above o j m → Above o j (remove o k m)
@@ -103,18 +106,17 @@ module _ {K V : Type 0} (o : Order K) where
 
   -- ---- maps with equal look-ups are equal
 
-  look_head : (p : K × V) (m : List (K × V)) → look o p.0 (p ∷ m) ≡ Some p.1
+  pub look_head : (p : K × V) (m : List (K × V)) → look o p.0 (p ∷ m) ≡ Some p.1
   look_head p m = let i = o.itself p.0 in grind arith
 
   -- where the first keys of two maps differ, one of the maps lacks a key of the other
-  less_absent : (k : K) (q : K × V) (n : List (K × V)) → o.cmp k q.0 ≡ Less → look o k (q ∷ n) ≡ None
+  pub less_absent : (k : K) (q : K × V) (n : List (K × V)) → o.cmp k q.0 ≡ Less → look o k (q ∷ n) ≡ None
   less_absent k q n l = grind arith
 
   tail_look : (p : K × V) (m : List (K × V)) (k : K) → Above o p.0 m → look o k m ≡ pick (o.cmp k p.0) None None (look o k (p ∷ m))
   tail_look p m k a =
       let e = o.equal k p.0 in
-      let l = above_less k p.0 m in
-      let n = look_above k m in
+      let l = look_below k p.0 m a in
       let z = look_above p.0 m a in
       grind arith
 
@@ -138,21 +140,20 @@ module _ {K V : Type 0} (o : Order K) where
 
   -- ---- by look-ups
 
-  pub look_insert : (q k : K) (v : V) (m : List (K × V)) → Sorted o m → look o q (insert o k v m) ≡ pick (o.cmp q k) (look o q m) (Some v) (look o q m)
-  look_insert q k v m s = go (o.cmp q k) refl
+  -- by the comparison of a key with the one that was written
+  by_key : (q k : K) (x a b : Option V) → (q ≡ k → x ≡ a) → ((q ≡ k → ⊥) → x ≡ b) → x ≡ pick (o.cmp q k) b a b
+  by_key q k x a b same other = go (o.cmp q k) refl
     where
-      go : (r : Ordering) → o.cmp q k ≡ r → look o q (insert o k v m) ≡ pick r (look o q m) (Some v) (look o q m)
-      go Less e = look_insert_other k q v m s (differs o q k (λ z. let u = e in grind arith))
-      go Equal e = subst (λ x. look o x (insert o k v m) ≡ Some v) (sym (o.equal q k e)) (look_insert_same k v m)
-      go Greater e = look_insert_other k q v m s (differs o q k (λ z. let u = e in grind arith))
+      go : (r : Ordering) → o.cmp q k ≡ r → x ≡ pick r b a b
+      go Less e = other (differs o q k (λ z. grind arith))
+      go Equal e = same (o.equal q k e)
+      go Greater e = other (differs o q k (λ z. grind arith))
+
+  pub look_insert : (q k : K) (v : V) (m : List (K × V)) → Sorted o m → look o q (insert o k v m) ≡ pick (o.cmp q k) (look o q m) (Some v) (look o q m)
+  look_insert q k v m s = by_key q k _ _ _ (λ e. rw e (look_insert_same k v m)) (look_insert_other k q v m s)
 
   pub look_remove : (q k : K) (m : List (K × V)) → Sorted o m → look o q (remove o k m) ≡ pick (o.cmp q k) (look o q m) None (look o q m)
-  look_remove q k m s = go (o.cmp q k) refl
-    where
-      go : (r : Ordering) → o.cmp q k ≡ r → look o q (remove o k m) ≡ pick r (look o q m) None (look o q m)
-      go Less e = look_remove_other k q m s (differs o q k (λ z. let u = e in grind arith))
-      go Equal e = subst (λ x. look o x (remove o k m) ≡ None) (sym (o.equal q k e)) (look_remove_same k m s)
-      go Greater e = look_remove_other k q m s (differs o q k (λ z. let u = e in grind arith))
+  look_remove q k m s = by_key q k _ _ _ (λ e. rw e (look_remove_same k m s)) (look_remove_other k q m s)
 
   pub insert_remove : (k : K) (v : V) (m : List (K × V)) → Sorted o m → look o k m ≡ Some v → insert o k v (remove o k m) ≡ m
   insert_remove k v m s h =

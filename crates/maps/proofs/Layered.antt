@@ -1,7 +1,7 @@
 -- The laws of entries over a map.
 use Rattle.std.proofs.Common.{◌≡◌, ℕ, ◌<◌, ◌≤◌, Bool, true, false, cond, not, ◌&&◌, List, [], ◌∷◌, length, get_or, set, Some, None, Option, Ordering, Less, Equal, Greater, sym, refl, ap, ◌∙◌, subst, arith}
-use Rattle.maps.specs.Maps.{Order, pick, look, insert, remove, Above, Sorted, write, place}
-use Rattle.maps.proofs.Laws.{look_insert, look_remove, look_write, sorted_insert, sorted_remove, sorted_write, same_maps, look_above, length_insert, length_remove}
+use Rattle.maps.specs.Maps.{Order, pick, look, insert, remove, Sorted, write, place}
+use Rattle.maps.proofs.Laws.{look_insert, look_remove, look_write, sorted_insert, sorted_remove, sorted_write, same_maps, look_above, look_below, look_head, length_insert, length_remove}
 use Rattle.maps.specs.Layers.{Marks, said, Agrees, laid, Flags, takes, put_one, puts, spilled, One, Fits}
 
 -- ---- a part of a map is no longer than it
@@ -9,29 +9,19 @@ module _ {K V : Type 0} (o : Order K) where
   abbrev pub Within : List (K × V) → List (K × V) → Type 0
   Within m n = (q : K) (v : V) → look o q m ≡ Some v → look o q n ≡ Some v
 
-  head_look : (p : K × V) (m : List (K × V)) → look o p.0 (p ∷ m) ≡ Some p.1
-  head_look p m = let i = o.itself p.0 in grind arith
-
   tail_within : (p : K × V) (m n : List (K × V)) → Sorted o (p ∷ m) → Sorted o n → Within (p ∷ m) n → Within m (remove o p.0 n)
   tail_within p m n s t h q v e =
       let a = look_remove o q p.0 n t in
       let b = h q v in
       let z = look_above o p.0 m s.0 in
-      let l = above_none q in
+      let l = look_below o q p.0 m s.0 in
       let d = o.equal q p.0 in
       grind arith
-    where
-      above_none : (q : K) → o.cmp q p.0 ≡ Less → look o q m ≡ None
-      above_none q l = go m s.0
-        where
-          go : (m : List (K × V)) → Above o p.0 m → look o q m ≡ None
-          go [] a = refl
-          go (x ∷ m) a = let t = o.trans q p.0 x.0 l a.0 in grind arith
 
   pub length_within : (m n : List (K × V)) → Sorted o m → Sorted o n → Within m n → length m ≤ length n
   length_within [] n s t h = omega arith
   length_within (p ∷ m) n s t h =
-      let found = h p.0 p.1 (head_look p m) in
+      let found = h p.0 p.1 (look_head o p m) in
       let ih = length_within m (remove o p.0 n) s.1 (sorted_remove o p.0 n t) (tail_within p m n s t h) in
       omega (arith, length_remove o p.0 p.1 n found)
 
@@ -50,16 +40,12 @@ module _ {K V W : Type 0} (o : Order K) (k : Marks V W) where
   sorted_laid [] m s = s
   sorted_laid (e ∷ es) m s = sorted_write o e.0 (k.value e.1) _ (sorted_laid es m s)
 
-  below_none : (q : K) (p : K × W) (es : List (K × W)) → Above o p.0 es → o.cmp q p.0 ≡ Less → look o q es ≡ None
-  below_none q p [] a l = refl
-  below_none q p (x ∷ es) a l = let t = o.trans q p.0 x.0 l a.0 in grind arith
-
   pub look_laid : (q : K) (es : List (K × W)) (m : List (K × V)) → Sorted o es → Sorted o m → look o q (laid o k es m) ≡ said k (look o q es) (look o q m)
   look_laid q [] m t s = refl
   look_laid q (e ∷ es) m t s =
       let ih = look_laid q es m t.1 s in
       let a = look_write o q e.0 (k.value e.1) (laid o k es m) (sorted_laid es m s) in
-      let b = below_none q e es t.0 in
+      let b = look_below o q e.0 es t.0 in
       grind arith
 
   -- ---- one entry written
@@ -116,16 +102,16 @@ module _ {K V W : Type 0} (o : Order K) (k : Marks V W) where
   flags_remove q es m t f p x h = f p x (let a = look_remove o p q es t in grind arith)
 
   pub flags_none : (m : List (K × V)) → Flags o k [] m
-  flags_none m q w h = let z : ◌≡◌ {A = ℕ} 0 1 = cc in absurd (omega arith)
+  flags_none m q w h = absurd cc
 
   -- ---- a spill
+  sorted_taken : (p : K) (b : Bool) (m : List (K × V)) → Sorted o m → Sorted o (cond b (remove o p m) m)
+  sorted_taken p true m s = sorted_remove o p m s
+  sorted_taken p false m s = s
+
   pub sorted_takes : (es : List (K × W)) (m : List (K × V)) → Sorted o m → Sorted o (takes o k es m)
   sorted_takes [] m s = s
-  sorted_takes (e ∷ es) m s = sorted_takes es _ (go (k.dirty e.1 && not (k.fresh e.1)))
-    where
-      go : (b : Bool) → Sorted o (cond b (remove o e.0 m) m)
-      go true = sorted_remove o e.0 m s
-      go false = s
+  sorted_takes (e ∷ es) m s = sorted_takes es _ (sorted_taken e.0 (k.dirty e.1 && not (k.fresh e.1)) m s)
 
   sorted_one : (b : Bool) (q : K) (x : Option V) (m : List (K × V)) → Sorted o m → Sorted o (put_one o k b q x m)
   sorted_one false q x m s = s
@@ -165,16 +151,12 @@ module _ {K V W : Type 0} (o : Order K) (k : Marks V W) where
   look_one q p true None m s = grind arith
   look_one q p true (Some v) m s = look_insert o q p v m s
 
-  sorted_taken : (p : K) (b : Bool) (m : List (K × V)) → Sorted o m → Sorted o (cond b (remove o p m) m)
-  sorted_taken p true m s = sorted_remove o p m s
-  sorted_taken p false m s = s
-
   pub look_takes : (q : K) (es : List (K × W)) (m : List (K × V)) → Sorted o es → Sorted o m → look o q (takes o k es m) ≡ after_takes (look o q es) (look o q m)
   look_takes q [] m t s = refl
   look_takes q (e ∷ es) m t s =
       let ih = look_takes q es _ t.1 (sorted_taken e.0 (k.dirty e.1 && not (k.fresh e.1)) m s) in
       let a = look_taken q e.0 (k.dirty e.1) (k.fresh e.1) m s in
-      let b = below_none q e es t.0 in
+      let b = look_below o q e.0 es t.0 in
       let c = look_above o e.0 es t.0 in
       let d = o.equal q e.0 in
       grind arith
@@ -184,7 +166,7 @@ module _ {K V W : Type 0} (o : Order K) (k : Marks V W) where
   look_puts q (e ∷ es) m t s =
       let ih = look_puts q es _ t.1 (sorted_one (k.dirty e.1) e.0 (k.value e.1) m s) in
       let a = look_one q e.0 (k.dirty e.1) (k.value e.1) m s in
-      let b = below_none q e es t.0 in
+      let b = look_below o q e.0 es t.0 in
       let c = look_above o e.0 es t.0 in
       let d = o.equal q e.0 in
       grind arith
@@ -219,7 +201,7 @@ module _ {K V W : Type 0} (o : Order K) (k : Marks V W) where
 
   tail_found : (q : K) (w : W) (e : K × W) (es : List (K × W)) → Sorted o (e ∷ es) → look o q es ≡ Some w → (look o q (e ∷ es) ≡ Some w) × (o.cmp q e.0 ≡ Equal → ⊥)
   tail_found q w e es t h =
-      let b = below_none q e es t.0 in
+      let b = look_below o q e.0 es t.0 in
       let c = look_above o e.0 es t.0 in
       let d = o.equal q e.0 in
       (grind arith, λ z. grind arith)
@@ -228,9 +210,6 @@ module _ {K V W : Type 0} (o : Order K) (k : Marks V W) where
   fits most [] m n t s u h l a = tt
   fits most (e ∷ es) m n t s u h l a = go (λ z s h a. fits most es z n t.1 s u h l a) (k.dirty e.1) (k.value e.1) refl refl
     where
-      here : look o e.0 (e ∷ es) ≡ Some e.1
-      here = let i = o.itself e.0 in grind arith
-
       rest : Wanting es m n
       rest q w v f d x = a q w v (tail_found q w e es t f).0 d x
 
@@ -238,7 +217,7 @@ module _ {K V W : Type 0} (o : Order K) (k : Marks V W) where
       go ih false y p r = (tt, ih m s h rest)
       go ih true None p r = (tt, ih m s h rest)
       go ih true (Some v) p r =
-          let both = a e.0 e.1 v here p r in
+          let both = a e.0 e.1 v (look_head o e es) p r in
           let more = grows e m n v s h both.1 in
           let long = length_within o (insert o e.0 v m) n (sorted_insert o e.0 v m s) u more in
           let room : length m < most = omega (arith, length_insert o e.0 v m both.0) in (

@@ -1,8 +1,8 @@
 -- The next pair of entries over a map.
 use Rattle.std.proofs.Common.{◌≡◌, ℕ, zero, suc, ◌+◌, ◌<◌, List, [], ◌∷◌, length, get_or, Some, None, Option, Ordering, Less, Equal, Greater, sym, refl, ap, ◌∙◌, subst, add-one, arith}
 use Rattle.std.specs.List.{slice_get}
-use Rattle.maps.specs.Maps.{Order, look, Above, Sorted, after, next_of, Beyond, Least}
-use Rattle.maps.proofs.Laws.{after_above, above_at}
+use Rattle.maps.specs.Maps.{Order, look, Sorted, after, next_of, Beyond, Least}
+use Rattle.maps.proofs.Laws.{after_above, above_at, less_absent}
 use Rattle.maps.specs.Layers.{Marks, laid}
 use Rattle.maps.proofs.Layered.{sorted_laid, look_laid}
 
@@ -16,9 +16,6 @@ past o k q x n l =
     grind arith
 
 module _ {K V : Type 0} (o : Order K) where
-  less_none : (q : K) (p : K × V) (m : List (K × V)) → Above o p.0 m → o.cmp q p.0 ≡ Less → look o q (p ∷ m) ≡ None
-  less_none q p m a l = grind arith
-
   after_none : (k : K) (m : List (K × V)) → Sorted o m → after o k m ≡ None → (q : K) → o.cmp k q ≡ Less → look o q m ≡ None
   after_none k [] s h q l = refl
   after_none k (p ∷ m) s h q l =
@@ -36,26 +33,26 @@ module _ {K V : Type 0} (o : Order K) where
   }
 
   after_some : (k : K) (m : List (K × V)) (p : K × V) → Sorted o m → after o k m ≡ Some p → Least o (Some k) m p
-  after_some k [] p s h = absurd (let z : ◌≡◌ {A = ℕ} 0 1 = cc in omega arith)
+  after_some k [] p s h = absurd cc
   after_some k (x ∷ m) p s h = go (λ z. after_some k m p s.1 z) (o.cmp k x.0) refl
     where
       go : (after o k m ≡ Some p → Least o (Some k) m p) → (r : Ordering) → o.cmp k x.0 ≡ r → Least o (Some k) (x ∷ m) p
       go ih Less e =
           let same : x ≡ p = grind arith in
-          subst (Least o (Some k) (x ∷ m)) same (record { there = let i = o.itself x.0 in grind arith; above = e; least = λ q b l. less_none q x m s.0 l })
+          subst (Least o (Some k) (x ∷ m)) same (record { there = let i = o.itself x.0 in grind arith; above = e; least = λ q b l. less_absent o q x m l })
       go ih Equal e = skip k x p m (λ z. grind arith) (ih (grind arith))
       go ih Greater e = skip k x p m (λ z. grind arith) (ih (grind arith))
 
   pub next_some : (from : Option K) (m : List (K × V)) (p : K × V) → Sorted o m → next_of o from m ≡ Some p → Least o from m p
-  next_some None [] p s h = absurd (let z : ◌≡◌ {A = ℕ} 0 1 = cc in omega arith)
+  next_some None [] p s h = absurd cc
   next_some None (x ∷ m) p s h =
       let e : x ≡ p = cc in
-      subst (Least o None (x ∷ m)) e (record { there = let i = o.itself x.0 in grind arith; above = tt; least = λ q b l. less_none q x m s.0 l })
+      subst (Least o None (x ∷ m)) e (record { there = let i = o.itself x.0 in grind arith; above = tt; least = λ q b l. less_absent o q x m l })
   next_some (Some k) m p s h = after_some k m p s h
 
   pub next_none : (from : Option K) (m : List (K × V)) → Sorted o m → next_of o from m ≡ None → (q : K) → Beyond o from q → look o q m ≡ None
   next_none None [] s h q b = refl
-  next_none None (x ∷ m) s h q b = absurd (let z : ◌≡◌ {A = ℕ} 0 1 = cc in omega arith)
+  next_none None (x ∷ m) s h q b = absurd cc
   next_none (Some k) m s h q b = after_none k m s h q b
 
   pub none_is : (from : Option K) (m : List (K × V)) → Sorted o m → ((q : K) → Beyond o from q → look o q m ≡ None) → next_of o from m ≡ None
@@ -63,13 +60,13 @@ module _ {K V : Type 0} (o : Order K) where
     where
       go : (r : Option (K × V)) → next_of o from m ≡ r → r ≡ None
       go None e = refl
-      go (Some p) e = let l = next_some from m p s e in let a = h p.0 l.above in let b = l.there in absurd (let z : ◌≡◌ {A = ℕ} 0 1 = cc in omega arith)
+      go (Some p) e = let l = next_some from m p s e in let a = h p.0 l.above in let b = l.there in absurd cc
 
   pub is_next : (from : Option K) (m : List (K × V)) (p : K × V) → Sorted o m → Least o from m p → next_of o from m ≡ Some p
   is_next from m p s h = go (next_of o from m) refl
     where
       same : (x : K × V) → Least o from m x → (r : Ordering) → o.cmp x.0 p.0 ≡ r → x ≡ p
-      same x l Less e = let a = h.least x.0 l.above e in let b = l.there in absurd (let z : ◌≡◌ {A = ℕ} 0 1 = cc in omega arith)
+      same x l Less e = let a = h.least x.0 l.above e in let b = l.there in absurd cc
       same x l Equal e =
           let key = o.equal x.0 p.0 e in
           let a = l.there in
@@ -81,10 +78,10 @@ module _ {K V : Type 0} (o : Order K) where
           let less : o.cmp p.0 x.0 ≡ Less = grind arith in
           let a = l.least p.0 h.above less in
           let b = h.there in
-          absurd (let z : ◌≡◌ {A = ℕ} 0 1 = cc in omega arith)
+          absurd cc
 
       go : (r : Option (K × V)) → next_of o from m ≡ r → r ≡ Some p
-      go None e = let a = next_none from m s e p.0 h.above in let b = h.there in absurd (let z : ◌≡◌ {A = ℕ} 0 1 = cc in omega arith)
+      go None e = let a = next_none from m s e p.0 h.above in let b = h.there in absurd cc
       go (Some x) e = let l = next_some from m x s e in ap Some (same x l (o.cmp x.0 p.0) refl)
 
   -- the pair after the i-th
