@@ -1,5 +1,5 @@
-use Rattle.std.proofs.Common.{◌≡◌, ap, ◌∙◌}
-use Rattle.cache.specs.Parts.{entries_of, below_of, map_of}
+use Rattle.std.proofs.Common.{ap, ◌∙◌}
+use Rattle.cache.specs.Parts.{entries_of}
 use Rattle.cache.specs.Rules.{taken_below, put_below}
 use Rattle.cache.proofs.Turns.{spill_can, spill_map, kept_empty}
 use Rattle.cache.proofs.cache.Cache.spill.Goals as goal
