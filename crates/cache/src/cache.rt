@@ -199,12 +199,7 @@ impl<V: CoinsView> CoinsView for Cache<V> {
         ensures below { below_of V.CoinsView self.new ≡ below_of V.CoinsView self.old }
     {
         let start = self.table.above(from);
-        next_over(
-            &mut self.below,
-            self.table.as_slice(),
-            start,
-            from.copied(),
-        )
+        next_over(&mut self.below, self.table.as_slice(), start, from.copied())
     }
 
     fn put(&mut self, at: Outpoint, coin: Coin) -> Result<(), ViewFault>

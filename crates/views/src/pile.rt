@@ -29,10 +29,7 @@ pub fn cached_quota(
 }
 
 // A quota over a cache over a flat table.
-pub fn quota_over_cache(
-    cells: &mut [(Outpoint, Coin)],
-    limit: usize,
-) -> Quota<Cache<FlatTable<'_>>>
+pub fn quota_over_cache(cells: &mut [(Outpoint, Coin)], limit: usize) -> Quota<Cache<FlatTable<'_>>>
     ensures { Means (quota_view (cache_view table_view)) (min limit (min (length cells.old) 4096)) [] [] result }
 {
     Quota::new(cached_table(cells), limit)

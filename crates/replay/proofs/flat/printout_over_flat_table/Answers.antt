@@ -1,6 +1,5 @@
-use Rattle.std.proofs.Common.{◌≡◌, min, List, [], length, Ok, Err, Result, ◌∙◌, subst, rules, arith}
+use Rattle.std.proofs.Common.{◌≡◌, min, List, [], length, Ok, Err, Result, ◌∙◌, subst, arith}
 use Rattle.std.specs.Prelude.{OnOk}
-use Rattle.std.proofs.lemmas.Result.{IfOk-from_err}
 use Rattle.coinsview.specs.Table.{table_view}
 use Rattle.cache.specs.Parts.{cache_view}
 use Rattle.ledger.specs.declared.runs.Answer.{Answer}
@@ -16,22 +15,17 @@ so : {T E : Type 0} (r : Result T E) (P Q : Type 0) → (P → Q) → OnOk r P �
 so (Ok x) P Q f h = f h
 so (Err e) P Q f h = h
 
-pub returns-in_err-view : goal.returns-in_err-view
-returns-in_err-view c =
-    let r = c.from_residual-in_err-view.result in
-    record { text = IfOk-from_err r _ (search rules); page = IfOk-from_err r _ (search rules); laws = IfOk-from_err r _ (search rules) }
-
 pub returns : goal.returns
 returns c =
     let table = c.new.ensures.means in
-    let view = c.in_ok-view.ensures.0 in
+    let view = c.new-view.ensures.means in
     let long : min (length c.deref_mut.result.now) 4096 ≡ 512 = omega (arith, c.deref_mut.ensures.len, c.in_ok-cells.ensures.len) in
-    let most : (cache_view table_view).most c.in_ok-view.view ≡ 512 = view.most ∙ table.most ∙ long in
-    let coins : (cache_view table_view).coins c.in_ok-view.view ≡ [] = view.coins ∙ table.coins in
+    let most : (cache_view table_view).most c.new-view.result ≡ 512 = view.most ∙ table.most ∙ long in
+    let coins : (cache_view table_view).coins c.new-view.result ≡ [] = view.coins ∙ table.coins in
     let l : FlatLedger = c.new-ledger.result in
     let begun : At (cache_view table_view) badge_or_clock first_page l =
     subst (λ n. At (cache_view table_view) badge_or_clock (unstarted n opens_either []) l) most
-    (subst (λ m. At (cache_view table_view) badge_or_clock (unstarted ((cache_view table_view).most c.in_ok-view.view) opens_either m) l) coins c.new-ledger.ensures.page) in
+    (subst (λ m. At (cache_view table_view) badge_or_clock (unstarted ((cache_view table_view).most c.new-view.result) opens_either m) l) coins c.new-ledger.ensures.page) in
     let bytes = c.args.blocks.now in
     let calls = script_calls bytes c.args.script.now in
     let z : FlatLedger = c.printout_of.new.ledger in

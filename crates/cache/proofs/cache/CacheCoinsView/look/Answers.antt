@@ -1,6 +1,5 @@
 use Rattle.std.proofs.Common.{sym, refl, ap, ◌∙◌, subst}
 use Rattle.coinsview.specs.Meaning.{coin_at}
-use Rattle.cache.specs.Parts.{map_of}
 use Rattle.cache.proofs.Turns.{says_is, look_left}
 use Rattle.cache.proofs.cache.CacheCoinsView.look.Goals as goal
 

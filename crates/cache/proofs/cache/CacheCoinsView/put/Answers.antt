@@ -1,4 +1,4 @@
-use Rattle.std.proofs.Common.{◌≡◌, ◌+◌, ◌<◌, None, sym, refl, ap, ◌∙◌, arith, rules}
+use Rattle.std.proofs.Common.{◌≡◌, ◌+◌, ◌<◌, None, refl, ap, ◌∙◌, arith, rules}
 use Rattle.coinsview.specs.Meaning.{coin_at, with_coin}
 use Rattle.cache.specs.Parts.{map_of}
 use Rattle.cache.proofs.Turns.{says_is, put_left}

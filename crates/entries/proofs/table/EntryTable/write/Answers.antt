@@ -1,4 +1,4 @@
-use Rattle.std.proofs.Common.{arith, length-set}
+use Rattle.std.proofs.Common.{length-set}
 use Rattle.entries.proofs.Places.{set_at, sorted_with}
 use Rattle.entries.proofs.table.EntryTable.write.Goals as goal
 
