@@ -1,17 +1,12 @@
 -- The order of outpoints is total, and tells any two apart. Assumes nothing.
-use Rattle.std.proofs.Common.{◌≡◌, List, ℕ, Ordering, Less, Equal, Greater, refl, subst, Decides, arith}
+use Rattle.std.proofs.Common.{◌≡◌, List, ℕ, Less, Equal, subst, Decides, arith}
 use Rattle.std.specs.Cmp.{Equal-is, tied_itself}
 use Rattle.std.specs.Cmp.Lexicographic.{slice_cmp, nat_list_cmp_total}
-use Rattle.std.specs.Ordering.{ordering_then, ordering_reverse, is_eq, nat_cmp}
+use Rattle.std.specs.Ordering.{ordering_reverse, is_eq, nat_cmp}
 use Rattle.std.proofs.lemmas.Map.Lookups.{exact_bytes, exact_unsigned}
 use Rattle.coins.specs.declared.outpoint.Outpoint.{Outpoint}
 use Rattle.coins.specs.Order.{order}
 use Rattle.coins.specs.Comparisons.{order_is_total}
-
-pub then_first : (a b : Ordering) → (a ≡ Equal → ⊥) → ordering_then a b ≡ a
-then_first Less b n = refl
-then_first Equal b n = absurd (n refl)
-then_first Greater b n = refl
 
 pub lex_itself : (xs : List ℕ) → slice_cmp nat_cmp xs xs ≡ Equal
 lex_itself = tied_itself nat_list_cmp_total

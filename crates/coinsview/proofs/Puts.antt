@@ -1,9 +1,8 @@
 -- What put answers, by what is there.
-use Rattle.std.proofs.Common.{◌≡◌, ℕ, ◌<◌, ◌≤◌, false, ltb, List, [], ◌∷◌, length, Some, None, Ok, Err, Option, sym, refl, ap, ◌∙◌, subst, arith, lt-ltb}
+use Rattle.std.proofs.Common.{◌≡◌, ℕ, ◌<◌, ◌≤◌, false, ltb, length, Some, None, Ok, Err, Option, sym, refl, ap, ◌∙◌, subst, arith, lt-ltb}
 use Rattle.std.proofs.lemmas.Bool.Decides.{nat_tests}
 use Rattle.coins.specs.declared.coin.Coin.{Coin}
 use Rattle.coins.specs.declared.outpoint.Outpoint.{Outpoint}
-use Rattle.maps.specs.Maps.{Order, remove}
 use Rattle.maps.specs.Keyed.{outpoints}
 use Rattle.maps.proofs.Laws.{length_insert}
 use Rattle.coinsview.specs.Meaning.{Coins, coin_at, put_by, put_answer, put_map}
@@ -34,7 +33,3 @@ module _ (n : ℕ) (k : Outpoint) (m : Coins) where
       go : (w : Option Coin) → coin_at k m ≡ w → length (put_map (put_by w (ltb (length m) n)) k c m) ≤ n
       go (Some old) e = omega arith
       go None e = subst (λ b. length (put_map (put_by None b) k c m) ≤ n) (sym (lt-ltb (length m) n l)) (omega (arith, length_insert outpoints k c m e))
-
-pub length_without : {K V : Type 0} (o : Order K) (k : K) (m : List (K × V)) → length (remove o k m) ≤ length m
-length_without o k [] = omega arith
-length_without o k (p ∷ m) = let ih = length_without o k m in grind arith

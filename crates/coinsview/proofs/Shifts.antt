@@ -1,22 +1,17 @@
--- Lists of which a part has moved by one place.
-use Rattle.std.proofs.Common.{◌≡◌, ℕ, ◌+◌, ◌-◌, ◌<◌, ◌≤◌, List, length, get_or, take, set, ◌∙◌, arith}
-use Rattle.std.specs.List.{insert, remove}
+-- Lists of which a part was copied by one place, and then an element set or the last one left out.
+use Rattle.std.proofs.Common.{◌≡◌, ℕ, ◌+◌, ◌-◌, ◌<◌, ◌≤◌, List, length, take, set, ◌∙◌, arith}
+use Rattle.std.specs.List.{CopiedTo, SameBelow, insert, remove}
 use Rattle.std.proofs.lemmas.List.{length-set, length-take-le, get_or-take, get_or-set_same, get_or-set_other, same_lists}
 use Rattle.std.proofs.lemmas.Bool.{cases_eq}
 use Rattle.std.proofs.lemmas.List.Edits.{length-insert, get_or-insert_below, get_or-insert_at, get_or-insert_above, length-remove, get_or-remove_below, get_or-remove_above}
 
-module _ {X : Type 0} where
-  -- the elements above j, up to `used`, have come from one place below
-  pub record Up (old new : List X) (used j : ℕ) : Type 0 where
-    pub long : length new ≡ length old
-    pub low : (k : ℕ) (d : X) → k ≤ j → get_or new k d ≡ get_or old k d
-    pub high : (k : ℕ) (d : X) → j < k → k ≤ used → get_or new k d ≡ get_or old (k - 1) d
-
-  pub up_all : (old new : List X) (used at : ℕ) (x : X) → Up old new used at → at ≤ used → used < length old → take (used + 1) (set new at x) ≡ insert (take used old) at x
-  up_all old new used at x u p q =
+module _ {X : Type 0} (old new : List X) (used at : ℕ) (long : length new ≡ length old) where
+  -- the used elements from `at` on went up by one place, and x came there
+  pub opened : (x : X) → at ≤ used → used < length old → CopiedTo old new at (at + 1) (used - at) → SameBelow old new (at + 1) → take (used + 1) (set new at x) ≡ insert (take used old) at x
+  opened x p q moved low =
       let n = set new at x in
       let ys = take used old in
-      let long : length n ≡ length old = length-set new at x ∙ u.long in
+      let wide : length n ≡ length old = length-set new at x ∙ long in
       let fits : used + 1 ≤ length n = omega arith in
       let len : length ys ≡ used = length-take-le used old (omega arith) in
       let le : at ≤ length ys = omega arith in
@@ -26,37 +21,34 @@ module _ {X : Type 0} where
       let under : k < used + 1 = omega arith in
       let a = cases_eq k at in
       let t = get_or-take (used + 1) n k d under in
-      let same = get_or-set_same new at x d (omega (arith, u.long)) in
+      let same = get_or-set_same new at x d (omega (arith, long)) in
       let other = get_or-set_other new at k x d in
-      let lo = u.low k d in
-      let hi = u.high k d in
+      let lo = λ (b : k < at + 1). low k d b in
+      let one : at < k → at + (k - (at + 1)) ≡ k - 1 = λ b. omega arith in
+      let hi = λ (b : at + 1 ≤ k) (e : k < (at + 1) + (used - at)). moved k d b e in
       let below = λ (b : k < at). get_or-insert_below ys at x d k b le in
       let here = get_or-insert_at ys at x d le in
       let above = λ (b : at ≤ k - 1). get_or-insert_above ys at x d (k - 1) b le in
       let ty = get_or-take used old k d in
       let tz = get_or-take used old (k - 1) d in
-      let one : at < k → (k - 1) + 1 ≡ k = λ b. omega arith in
+      let next : at < k → (k - 1) + 1 ≡ k = λ b. omega arith in
       grind arith)
 
-  -- the elements from `at` up to `used` have come from one place above
-  pub record Down (old new : List X) (used at : ℕ) : Type 0 where
-    pub long : length new ≡ length old
-    pub low : (k : ℕ) (d : X) → k < at → get_or new k d ≡ get_or old k d
-    pub mid : (k : ℕ) (d : X) → at ≤ k → k + 1 < used → get_or new k d ≡ get_or old (k + 1) d
-
-  pub down_all : (old new : List X) (used at : ℕ) → Down old new used at → at < used → used ≤ length old → take (used - 1) new ≡ remove (take used old) at
-  down_all old new used at u p q =
+  -- the used elements after `at` came down by one place
+  pub closed : at < used → used ≤ length old → CopiedTo old new (at + 1) at (used - (at + 1)) → SameBelow old new at → take (used - 1) new ≡ remove (take used old) at
+  closed p q moved low =
       let ys = take used old in
       let len : length ys ≡ used = length-take-le used old q in
       let le : at < length ys = omega arith in
-      let fits : used - 1 ≤ length new = omega (arith, u.long) in
+      let fits : used - 1 ≤ length new = omega (arith, long) in
       let short : length (take (used - 1) new) ≡ used - 1 = length-take-le (used - 1) new fits in
       same_lists (take (used - 1) new) (remove ys at) (short ∙ (omega (arith, length-remove ys at le)))
       (λ k d h.
       let under : k < used - 1 = omega arith in
       let t = get_or-take (used - 1) new k d under in
-      let lo = u.low k d in
-      let mi = u.mid k d in
+      let lo = low k d in
+      let one : at ≤ k → (at + 1) + (k - at) ≡ k + 1 = λ b. omega arith in
+      let mi = moved k d in
       let below = λ (b : k < at). get_or-remove_below ys at d k b le in
       let above = λ (b : at ≤ k). get_or-remove_above ys at d k b le in
       let ty = get_or-take used old k d in

@@ -12,11 +12,11 @@ pub enum ViewFault {
     Full,
 }
 
-impl ViewFault {
-    pub fn reason(self) -> Reason
-        ensures { result ≡ reason_of self }
-    {
-        match self {
+impl From<ViewFault> for Reason {
+    ghost from_gives = { λ f r. r ≡ reason_of f };
+
+    fn from(fault: ViewFault) -> Reason {
+        match fault {
             ViewFault::Exists => Reason::Exists,
             ViewFault::Full => Reason::Full,
         }

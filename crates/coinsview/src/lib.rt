@@ -4,6 +4,5 @@
 pub mod fault;
 pub mod laws;
 pub mod quota;
-mod shift;
 pub mod table;
 pub mod view;

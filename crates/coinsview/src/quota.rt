@@ -25,6 +25,7 @@ impl<V: CoinsView> Quota<V> {
     }
 }
 
+// `quota_view` has the ghost members all together; an `impl` gives each by its name.
 impl<V: CoinsView> CoinsView for Quota<V> {
     ghost ok = { (quota_view V.CoinsView).ok };
 

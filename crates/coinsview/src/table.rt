@@ -1,5 +1,5 @@
 // A table of coins in the caller's cells, one coin a cell, the used ones in the order of their outpoints.
-ghost use Rattle.std.specs.Prelude.{◌≡◌, min, [], length};
+ghost use Rattle.std.specs.Prelude.{◌≡◌, ◌<◌, ◌≤◌, min, [], length, MatchResult};
 ghost use Rattle.std.specs.List.{slice_get};
 ghost use Rattle.maps.specs.Maps.{after};
 ghost use Rattle.maps.specs.Keyed.{outpoints};
@@ -8,7 +8,6 @@ ghost use Rattle.coinsview.specs.Made.{Means};
 ghost use Rattle.coinsview.specs.Table.{cells_of, coins_of, empty_cells, table_view};
 
 use crate::fault::ViewFault;
-use crate::shift::{insert_at, remove_at};
 use crate::view::CoinsView;
 use coins::coin::{Coin, Lock};
 use coins::outpoint::Outpoint;
@@ -18,7 +17,7 @@ use maps::search::find;
 pub const MOST_CELLS: usize = 4096;
 
 // What is written into each cell at making.
-const EMPTY: (Outpoint, Coin) = (
+pub const EMPTY_CELL: (Outpoint, Coin) = (
     Outpoint {
         id: [0; 32],
         index: 0,
@@ -34,15 +33,7 @@ const EMPTY: (Outpoint, Coin) = (
     },
 );
 
-// Empties every cell.
-fn clear(cells: &mut [(Outpoint, Coin)])
-    ensures { cells.new ≡ empty_cells (length cells.old) }
-{
-    for cell in cells.iter_mut() {
-        *cell = EMPTY;
-    }
-}
-
+// The cells are the caller's memory, so their count in use stands beside them: nothing is allocated.
 #[derive(Drop)]
 pub struct FlatTable<'a> {
     cells: &'a mut [(Outpoint, Coin)],
@@ -55,7 +46,7 @@ impl<'a> FlatTable<'a> {
         ensures means { Means table_view (min (length cells.old) 4096) [] [] result }
         ensures emptied { cells_of result ≡ empty_cells (min (length cells.old) 4096) }
     {
-        clear(cells);
+        cells.fill(EMPTY_CELL);
         let most = cells.len().min(MOST_CELLS);
         FlatTable {
             cells: &mut cells[0..most],
@@ -65,14 +56,21 @@ impl<'a> FlatTable<'a> {
 }
 
 impl FlatTable<'_> {
+    // The cells in use.
+    fn coins(&self) -> &[(Outpoint, Coin)]
+        requires { table_view.ok self.now }
+        ensures { result.now ≡ coins_of self.now }
+    {
+        &self.cells[0..self.used]
+    }
+
     // The place of k among the used cells, as `Ok` where it has a coin.
     fn find(&self, k: &Outpoint) -> Result<usize, usize>
         requires { table_view.ok self.now }
-        ensures { Found outpoints k.now (coins_of self.now) result }
+        ensures found { Found outpoints k.now (coins_of self.now) result }
+        ensures within { MatchResult result (λ i. i < self.now.used) (λ i. i ≤ self.now.used) }
     {
-        let used = self.used;
-        let cells = &*self.cells;
-        find(&cells[0..used], k)
+        find(self.coins(), k)
     }
 
     // The place of the first outpoint above k.
@@ -87,6 +85,7 @@ impl FlatTable<'_> {
     }
 }
 
+// `table_view` has the ghost members all together; an `impl` gives each by its name.
 impl CoinsView for FlatTable<'_> {
     ghost ok = { table_view.ok };
 
@@ -113,10 +112,8 @@ impl CoinsView for FlatTable<'_> {
     }
 
     fn look(&mut self, at: &Outpoint) -> Option<Coin> {
-        match self.find(at) {
-            Ok(i) => Some(self.cells[i].1),
-            Err(_) => None,
-        }
+        let i = self.find(at).ok()?;
+        Some(self.cells[i].1)
     }
 
     fn next(&mut self, from: Option<&Outpoint>) -> Option<(Outpoint, Coin)> {
@@ -124,36 +121,29 @@ impl CoinsView for FlatTable<'_> {
             None => 0,
             Some(k) => self.above(k),
         };
-        if i < self.used {
-            Some(self.cells[i])
-        } else {
-            None
-        }
+        self.coins().get(i).copied()
     }
 
     fn put(&mut self, at: Outpoint, coin: Coin) -> Result<(), ViewFault> {
-        let used = self.used;
-        match self.find(&at) {
-            Ok(_) => Err(ViewFault::Exists),
-            Err(i) => {
-                if used == self.capacity() {
-                    return Err(ViewFault::Full);
-                }
-                insert_at(self.cells, used, i, (at, coin));
-                self.used = used + 1;
-                Ok(())
-            }
+        let Err(i) = self.find(&at) else {
+            return Err(ViewFault::Exists);
+        };
+        if self.used == self.capacity() {
+            return Err(ViewFault::Full);
         }
+        self.cells.copy_within(i..self.used, i + 1);
+        self.cells[i] = (at, coin);
+        self.used += 1;
+        Ok(())
     }
 
     fn take(&mut self, at: &Outpoint) -> Option<Coin> {
-        let used = self.used;
         let Ok(i) = self.find(at) else {
             return None;
         };
         let coin = self.cells[i].1;
-        remove_at(self.cells, used, i);
-        self.used = used - 1;
+        self.cells.copy_within(i + 1..self.used, i);
+        self.used -= 1;
         Some(coin)
     }
 

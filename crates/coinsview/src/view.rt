@@ -12,7 +12,8 @@ use coins::outpoint::Outpoint;
 // Pairs outpoints with coins, at most `most` of them. Nothing is refused but a put; a question, a refusal and a flush leave
 // the map. Only flush says what the bottom map is; any other call may move it.
 pub trait CoinsView {
-    // Links, flags and counts are in order: making gives it, each call needs it and keeps it.
+    // Links, flags and counts are in order: making gives it, each call needs it and keeps it. A trait has no invariant to say
+    // this once.
     ghost ok: { Self → Type 0 };
 
     // The capacity, which no call changes.

@@ -92,7 +92,7 @@ impl InputFault {
             InputFault::Missing => Reason::Missing,
             InputFault::Immature => Reason::Immature,
             InputFault::Shut => Reason::Shut,
-            InputFault::View(f) => f.reason(),
+            InputFault::View(f) => Reason::from(f),
         }
     }
 }

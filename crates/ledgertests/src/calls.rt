@@ -4,44 +4,106 @@ use coins::coin::{Coin, Lock};
 use coins::outpoint::Outpoint;
 use coinsview::view::CoinsView;
 use ledger::fault::LedgerFault;
-use ledger::{Ledger, Outcome};
+use ledger::{Balance, Connected, Disconnected, Ledger, Outcome};
+use refusal::{Reason, Refusal};
 use views::condition::SpendCondition;
 
 // Transactions go by the number of their identifier, blocks by their place in a list.
 #[derive(Clone, Copy)]
 pub enum Call {
-    // The halving interval, the maturity and the last height.
-    Start(u64, u64, u64),
+    Start {
+        halving: u64,
+        maturity: u64,
+        last: u64,
+    },
     Connect(usize),
     Disconnect,
     Settle(u64),
     Flush,
     Tip,
-    // A transaction and the place of its output.
-    Look(u8, u32),
+    Look {
+        tx: u8,
+        index: u32,
+    },
     First,
-    Next(u8, u32),
-    // The kind and the argument of a lock.
-    Balance(u8, u64),
+    Next {
+        tx: u8,
+        index: u32,
+    },
+    Balance(Lock),
 }
 
+// Identifiers by their last byte.
 #[derive(Clone, Copy, PartialEq, Debug)]
 pub enum Answer {
     Done,
-    // Height, coins made and spent, fees and burned.
-    Connected(u32, u64, u64, u64, u64),
-    // Height, and whether it was clean.
-    Disconnected(u32, bool),
+    Connected(Connected),
+    Disconnected(Disconnected),
     Kept(u64),
-    // The last byte of the identifier, and the height.
-    Tip(u8, u32),
-    // The last byte of the transaction's identifier, the place of the output, and the value.
-    Coin(u8, u32, u64),
+    Tip { id: u8, height: u32 },
+    Coin { tx: u8, index: u32, value: u64 },
     NoCoin,
-    // How many coins, and their value.
-    Balance(u64, u64),
-    // Number and place.
-    Refused(u8, u64, u64),
+    Balance(Balance),
+    Refused(Refusal),
+}
+
+// The calls and answers of a list, each on a line.
+pub const fn start(halving: u64, maturity: u64, last: u64) -> Call {
+    Call::Start {
+        halving,
+        maturity,
+        last,
+    }
+}
+
+pub const fn look(tx: u8, index: u32) -> Call {
+    Call::Look { tx, index }
+}
+
+pub const fn next(tx: u8, index: u32) -> Call {
+    Call::Next { tx, index }
+}
+
+pub const fn balance(kind: u8, argument: u64) -> Call {
+    Call::Balance(Lock { kind, argument })
+}
+
+pub const fn connected(height: u32, made: u64, spent: u64, fees: u64, burned: u64) -> Answer {
+    Answer::Connected(Connected {
+        height,
+        made,
+        spent,
+        fees,
+        burned,
+    })
+}
+
+// Taken back, and it went clean.
+pub const fn disconnected(height: u32) -> Answer {
+    Answer::Disconnected(Disconnected {
+        height,
+        outcome: Outcome::Clean,
+    })
+}
+
+pub const fn tip(id: u8, height: u32) -> Answer {
+    Answer::Tip { id, height }
+}
+
+pub const fn coin(tx: u8, index: u32, value: u64) -> Answer {
+    Answer::Coin { tx, index, value }
+}
+
+pub const fn worth(coins: u64, value: u64) -> Answer {
+    Answer::Balance(Balance { coins, value })
+}
+
+pub const fn refused(reason: Reason, first: u64, second: u64) -> Answer {
+    Answer::Refused(Refusal {
+        reason,
+        first,
+        second,
+    })
 }
 
 fn outpoint(tx: u8, index: u32) -> Outpoint {
@@ -50,66 +112,12 @@ fn outpoint(tx: u8, index: u32) -> Outpoint {
 
 fn found(pair: Option<(Outpoint, Coin)>) -> Answer {
     match pair {
-        Some(pair) => Answer::Coin(pair.0.id[31], pair.0.index, pair.1.value),
-        None => Answer::NoCoin,
-    }
-}
-
-// Connects a block of the list; one past its end has no bytes.
-fn connect<V: CoinsView, C: SpendCondition>(
-    ledger: &mut Ledger<V, C>,
-    blocks: &[Vec<u8>],
-    at: usize,
-) -> Result<Answer, LedgerFault>
-    requires { V.CoinsView.ok ledger.old.view }
-    ensures { V.CoinsView.ok ledger.new.view }
-{
-    let answer = match blocks.get(at) {
-        Some(block) => ledger.connect(block.as_slice())?,
-        None => ledger.connect(&[])?,
-    };
-    Ok(Answer::Connected(
-        answer.height,
-        answer.made,
-        answer.spent,
-        answer.fees,
-        answer.burned,
-    ))
-}
-
-fn next_above<V: CoinsView, C: SpendCondition>(
-    ledger: &mut Ledger<V, C>,
-    from: Option<Outpoint>,
-) -> Result<Answer, LedgerFault>
-    requires { V.CoinsView.ok ledger.old.view }
-    ensures { V.CoinsView.ok ledger.new.view }
-{
-    Ok(found(ledger.next(from.as_ref())?))
-}
-
-// The calls that ask and change nothing.
-fn ask<V: CoinsView, C: SpendCondition>(
-    ledger: &mut Ledger<V, C>,
-    call: Call,
-) -> Result<Answer, LedgerFault>
-    requires { V.CoinsView.ok ledger.old.view }
-    ensures { V.CoinsView.ok ledger.new.view }
-{
-    match call {
-        Call::Look(tx, index) => match ledger.look(&outpoint(tx, index))? {
-            Some(coin) => Ok(Answer::Coin(tx, index, coin.value)),
-            None => Ok(Answer::NoCoin),
+        Some((at, coin)) => Answer::Coin {
+            tx: at.id[31],
+            index: at.index,
+            value: coin.value,
         },
-        Call::First => next_above(ledger, None),
-        Call::Next(tx, index) => next_above(ledger, Some(outpoint(tx, index))),
-        Call::Balance(kind, argument) => {
-            let balance = ledger.balance(&Lock { kind, argument })?;
-            Ok(Answer::Balance(balance.coins, balance.value))
-        }
-        _ => {
-            let tip = ledger.tip()?;
-            Ok(Answer::Tip(tip.id[31], tip.height))
-        }
+        None => Answer::NoCoin,
     }
 }
 
@@ -121,24 +129,42 @@ fn try_call<V: CoinsView, C: SpendCondition>(
     requires { V.CoinsView.ok ledger.old.view }
     ensures { V.CoinsView.ok ledger.new.view }
 {
-    match call {
-        Call::Start(halving, maturity, last) => {
+    let answer = match call {
+        Call::Start {
+            halving,
+            maturity,
+            last,
+        } => {
             ledger.start(halving, maturity, last, &id(0))?;
-            Ok(Answer::Done)
+            Answer::Done
         }
-        Call::Connect(at) => connect(ledger, blocks, at),
-        Call::Disconnect => {
-            let answer = ledger.disconnect()?;
-            let clean = answer.outcome == Outcome::Clean;
-            Ok(Answer::Disconnected(answer.height, clean))
+        Call::Connect(at) => {
+            // A block past the end of the list has no bytes.
+            let block = blocks.get(at).map_or(&[][..], |block| block.as_slice());
+            Answer::Connected(ledger.connect(block)?)
         }
-        Call::Settle(n) => Ok(Answer::Kept(ledger.settle(n)?)),
+        Call::Disconnect => Answer::Disconnected(ledger.disconnect()?),
+        Call::Settle(n) => Answer::Kept(ledger.settle(n)?),
         Call::Flush => {
             ledger.flush()?;
-            Ok(Answer::Done)
+            Answer::Done
         }
-        _ => ask(ledger, call),
-    }
+        Call::Tip => {
+            let tip = ledger.tip()?;
+            Answer::Tip {
+                id: tip.id[31],
+                height: tip.height,
+            }
+        }
+        Call::Look { tx, index } => {
+            let at = outpoint(tx, index);
+            found(ledger.look(&at)?.map(|coin| (at, coin)))
+        }
+        Call::First => found(ledger.next(None)?),
+        Call::Next { tx, index } => found(ledger.next(Some(&outpoint(tx, index)))?),
+        Call::Balance(lock) => Answer::Balance(ledger.balance(&lock)?),
+    };
+    Ok(answer)
 }
 
 // The answer to a call.
@@ -152,20 +178,15 @@ pub fn perform<V: CoinsView, C: SpendCondition>(
 {
     match try_call(ledger, blocks, call) {
         Ok(answer) => answer,
-        Err(fault) => {
-            let refusal = fault.refusal();
-            Answer::Refused(refusal.reason.number(), refusal.first, refusal.second)
-        }
+        Err(fault) => Answer::Refused(fault.refusal()),
     }
 }
 
 // Whether the call changes what a ledger reads as, given this answer.
 pub fn changes(call: Call, answer: Answer) -> bool {
-    match answer {
-        Answer::Refused(_, _, _) => false,
-        _ => match call {
-            Call::Start(_, _, _) | Call::Connect(_) | Call::Disconnect | Call::Settle(_) => true,
-            _ => false,
-        },
+    match (call, answer) {
+        (_, Answer::Refused(_)) => false,
+        (Call::Start { .. } | Call::Connect(_) | Call::Disconnect | Call::Settle(_), _) => true,
+        _ => false,
     }
 }

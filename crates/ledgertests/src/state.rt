@@ -9,33 +9,11 @@ use views::condition::SpendCondition;
 // More coins than any view holds.
 const MANY: usize = 4097;
 
-#[derive(Drop)]
+#[derive(PartialEq, Drop)]
 pub struct State {
     tip: Option<Tip>,
     kept: Option<u64>,
     pub coins: Vec<(Outpoint, Coin)>,
-}
-
-impl State {
-    pub fn same(&self, other: &State) -> bool {
-        self.tip == other.tip
-            && self.kept == other.kept
-            && self.coins.len() == other.coins.len()
-            && stand_first(self.coins.as_slice(), other.coins.as_slice())
-    }
-}
-
-// Whether the coins stand in the first cells.
-pub fn stand_first(cells: &[(Outpoint, Coin)], coins: &[(Outpoint, Coin)]) -> bool {
-    if cells.len() < coins.len() {
-        return false;
-    }
-    for (x, y) in cells.iter().zip(coins.iter()) {
-        if x.0 != y.0 || x.1 != y.1 {
-            return false;
-        }
-    }
-    true
 }
 
 // The coins of a ledger, from the least outpoint to the greatest; none before the start.
@@ -49,10 +27,7 @@ fn coins_of<V: CoinsView, C: SpendCondition>(
     let mut coins = Vec::new(heap);
     let mut last = None;
     for _ in 0..MANY {
-        let Ok(found) = ledger.next(last.as_ref()) else {
-            return Ok(coins);
-        };
-        let Some(pair) = found else {
+        let Ok(Some(pair)) = ledger.next(last.as_ref()) else {
             return Ok(coins);
         };
         coins.push(pair)?;

@@ -20,12 +20,12 @@ fn check<D: Display + Drop>(holds: bool, what: D) -> Result<(), Fail> {
     Err(Fail::new(what))
 }
 
-// Makes one call, of the given line of a list.
+// Makes one call, of the given line of a list; the first is line 0.
 fn call_agrees<V: CoinsView, C: SpendCondition>(
     heap: Global,
     ledger: &mut Ledger<V, C>,
     blocks: &[Vec<u8>],
-    number: u64,
+    number: usize,
     call: Call,
     answer: Answer,
 ) -> Result<(), Fail>
@@ -40,7 +40,7 @@ fn call_agrees<V: CoinsView, C: SpendCondition>(
     )?;
     if !changes(call, answer) {
         check(
-            before.same(&state_of(heap, ledger)?),
+            before == state_of(heap, ledger)?,
             format_args!("line {number}: changed"),
         )?;
     }
@@ -57,10 +57,8 @@ fn agrees<V: CoinsView, C: SpendCondition>(
     requires { V.CoinsView.ok ledger.old.view }
     ensures { V.CoinsView.ok ledger.new.view }
 {
-    let mut number = 0u64;
-    for line in list {
-        number = number.saturating_add(1);
-        call_agrees(heap, ledger, blocks, number, line.0, line.1)?;
+    for (number, (call, answer)) in list.iter().enumerate() {
+        call_agrees(heap, ledger, blocks, number, *call, *answer)?;
     }
     Ok(())
 }

@@ -10,32 +10,13 @@ ghost use Rattle.replay.specs.Turns.{Printed};
 
 use crate::text::printout_of;
 use cache::cache::Cache;
-use coins::coin::{Coin, Lock};
-use coins::outpoint::Outpoint;
-use coinsview::table::FlatTable;
+use coinsview::table::{EMPTY_CELL, FlatTable};
 use ledger::Ledger;
 use std::alloc::{AllocError, Global};
 use views::condition::{Badge, Clock, Either};
 
 // The cells of the flat table.
 const CELLS: usize = 512;
-
-// What a cell holds before the table empties it.
-const CELL: (Outpoint, Coin) = (
-    Outpoint {
-        id: [0; 32],
-        index: 0,
-    },
-    Coin {
-        value: 0,
-        lock: Lock {
-            kind: 0,
-            argument: 0,
-        },
-        height: 0,
-        coinbase: false,
-    },
-);
 
 // The printout of a ledger that is made for it: a cache over a flat table of 512 cells, opened by badge or clock.
 pub fn printout_over_flat_table<'a>(
@@ -47,7 +28,7 @@ pub fn printout_over_flat_table<'a>(
     ensures page { IfOk result (λ t. string_bytes t ≡ printout blocks.now script.now first_page) }
     ensures laws { OnOk result ((l : FlatLedger) × (said : List Said) × PageLaws (cache_view table_view) badge_or_clock first_page blocks.now (script_calls blocks.now script.now) said l) }
 {
-    let mut cells = vec![in heap; CELL; CELLS]?;
+    let mut cells = vec![in heap; EMPTY_CELL; CELLS]?;
     let view = Cache::new(FlatTable::new(&mut cells));
     let condition = Either {
         first: Badge,

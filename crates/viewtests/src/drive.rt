@@ -39,26 +39,6 @@ fn coin(n: u64) -> Coin {
     }
 }
 
-fn same_coins(a: Option<Coin>, b: Option<Coin>) -> bool {
-    match a {
-        Some(x) => match b {
-            Some(y) => x == y,
-            None => false,
-        },
-        None => b.is_none(),
-    }
-}
-
-fn same_pairs(a: Option<(Outpoint, Coin)>, b: Option<(Outpoint, Coin)>) -> bool {
-    match a {
-        Some(x) => match b {
-            Some(y) => x.0 == y.0 && x.1 == y.1,
-            None => false,
-        },
-        None => b.is_none(),
-    }
-}
-
 fn call<V: CoinsView>(
     view: &mut V,
     model: &mut Model,
@@ -73,9 +53,9 @@ fn call<V: CoinsView>(
             let said = model.put(at, coin(n))?;
             Ok(view.put(at, coin(n)) == said)
         }
-        6..=9 => Ok(same_coins(view.take(&at), model.take(&at))),
-        10..=12 => Ok(same_coins(view.look(&at), model.look(&at))),
-        13 | 14 => Ok(same_pairs(view.next(Some(&at)), model.next(Some(at)))),
+        6..=9 => Ok(view.take(&at) == model.take(&at)),
+        10..=12 => Ok(view.look(&at) == model.look(&at)),
+        13 | 14 => Ok(view.next(Some(&at)) == model.next(Some(at))),
         _ => {
             if n % 64 == 15 {
                 view.flush();
@@ -93,13 +73,10 @@ pub fn walk<V: CoinsView>(view: &mut V, model: &Model) -> bool
     let mut last = None;
     for _ in 0..model.count() {
         let found = view.next(last.as_ref());
-        if !same_pairs(found, model.next(last)) {
+        if found.is_none() || found != model.next(last) {
             return false;
         }
-        match found {
-            Some(pair) => last = Some(pair.0),
-            None => return false,
-        }
+        last = found.map(|pair| pair.0);
     }
     view.next(last.as_ref()).is_none()
 }

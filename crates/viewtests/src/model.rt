@@ -25,19 +25,12 @@ impl Model {
     fn place(&self, at: &Outpoint) -> Option<usize>
         ensures { IfSome result (λ i. i < vec_len self.now.pairs) }
     {
-        for i in 0..self.pairs.len() {
-            if self.pairs[i].0 == *at {
-                return Some(i);
-            }
-        }
-        None
+        self.pairs.iter().position(|pair| pair.0 == *at)
     }
 
     pub fn look(&self, at: &Outpoint) -> Option<Coin> {
-        match self.place(at) {
-            Some(i) => Some(self.pairs[i].1),
-            None => None,
-        }
+        let i = self.place(at)?;
+        Some(self.pairs[i].1)
     }
 
     pub fn put(&mut self, at: Outpoint, coin: Coin) -> Result<Result<(), ViewFault>, AllocError> {
@@ -52,36 +45,16 @@ impl Model {
     }
 
     pub fn take(&mut self, at: &Outpoint) -> Option<Coin> {
-        match self.place(at) {
-            Some(i) => {
-                let pair = self.pairs.remove(i);
-                Some(pair.1)
-            }
-            None => None,
-        }
+        let i = self.place(at)?;
+        Some(self.pairs.remove(i).1)
     }
 
+    // No outpoint is before each outpoint.
     pub fn next(&self, from: Option<Outpoint>) -> Option<(Outpoint, Coin)> {
-        let mut best = None;
-        for pair in &self.pairs {
-            if above(from, &pair.0) && before(&pair.0, best) {
-                best = Some(*pair);
-            }
-        }
-        best
-    }
-}
-
-fn above(from: Option<Outpoint>, at: &Outpoint) -> bool {
-    match from {
-        Some(k) => k < *at,
-        None => true,
-    }
-}
-
-fn before(at: &Outpoint, best: Option<(Outpoint, Coin)>) -> bool {
-    match best {
-        Some(pair) => *at < pair.0,
-        None => true,
+        self.pairs
+            .iter()
+            .copied()
+            .filter(|pair| from < Some(pair.0))
+            .min_by(|a, b| a.0.cmp(&b.0))
     }
 }

@@ -4,6 +4,7 @@ use crate::piles::{cache_agrees, pile_agrees, quota_agrees, table_agrees};
 use std::test::Fail;
 use views::{Coin, CoinsView, FlatTable, Lock, Outpoint, Quota, ViewFault};
 
+// Cells that hold something, so that a table shows whether it empties them.
 const CELL: (Outpoint, Coin) = (
     Outpoint {
         id: [9; 32],

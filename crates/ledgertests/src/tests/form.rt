@@ -9,7 +9,7 @@ use coinsview::table::FlatTable;
 use coinsview::view::CoinsView;
 use compact::{ShortBuffer, write_size};
 use ledger::Ledger;
-use refusal::{Layer, Refusal};
+use refusal::{Layer, Reason, Refusal};
 use std::alloc::{AllocError, Global};
 use std::test::Fail;
 use views::condition::Badge;
@@ -27,12 +27,7 @@ const SIZES: [(u64, usize); 7] = [
 
 // Whether only the first `filled` bytes may differ from 170.
 fn untouched(buffer: &[u8], filled: usize) -> bool {
-    for byte in buffer.iter().skip(filled) {
-        if *byte != 170 {
-            return false;
-        }
-    }
-    true
+    buffer.iter().skip(filled).all(|byte| *byte == 170)
 }
 
 // Writes into a buffer of each size up to 12 bytes.
@@ -40,25 +35,23 @@ fn writes_or_refuses(heap: Global, n: u64, needed: usize) -> Result<(), Fail> {
     for room in 0..13usize {
         let mut buffer = vec![in heap; 170u8; room]?;
         let answer = write_size(buffer.as_mut_slice(), n);
-        if room < needed {
-            check(
-                answer == Err(ShortBuffer) && untouched(buffer.as_slice(), 0),
-                format_args!("size {n} in {room} bytes"),
-            )?;
+        let (due, filled) = if room < needed {
+            (Err(ShortBuffer), 0)
         } else {
-            check(
-                answer == Ok(needed) && untouched(buffer.as_slice(), needed),
-                format_args!("size {n} in {room} bytes"),
-            )?;
-        }
+            (Ok(needed), needed)
+        };
+        check(
+            answer == due && untouched(buffer.as_slice(), filled),
+            format_args!("size {n} in {room} bytes"),
+        )?;
     }
     Ok(())
 }
 
 #[test]
 fn short_buffers(rt: HostRuntime) -> Result<(), Fail> {
-    for size in &SIZES {
-        writes_or_refuses(rt.alloc(), size.0, size.1)?;
+    for (n, needed) in &SIZES {
+        writes_or_refuses(rt.alloc(), *n, *needed)?;
     }
     check_said(ShortBuffer.refusal(), 9, Layer::Form, 0)?;
     check_said(short_buffer(), 9, Layer::Form, 0)
@@ -110,19 +103,18 @@ fn above_the_limit(rt: HostRuntime) -> Result<(), Fail> {
     }
 }
 
-// 0 and the last bytes of the next record's two identifiers, or the refusal's number and place.
-fn peeked(reader: &mut FileReader<'_>) -> (u8, u64, u64) {
+// The last bytes of the next record's two identifiers.
+type Peek = Result<(u8, u8), Refusal>;
+
+fn peeked(reader: &mut FileReader<'_>) -> Peek {
     match reader.peek() {
-        Ok(ids) => (0, u64::from(ids.0[31]), u64::from(ids.1[31])),
-        Err(fault) => {
-            let refusal = fault.refusal();
-            (refusal.reason.number(), refusal.first, refusal.second)
-        }
+        Ok((id, previous)) => Ok((id[31], previous[31])),
+        Err(fault) => Err(fault.refusal()),
     }
 }
 
 // Peeks twice at each record, and moves past it.
-fn peeks_agree(name: &str, file: &[u8], answers: &[(u8, u64, u64)]) -> Result<(), Fail> {
+fn peeks_agree(name: &str, file: &[u8], answers: &[Peek]) -> Result<(), Fail> {
     let mut reader = FileReader::new(file)?;
     for answer in answers {
         let place = reader.place();
@@ -150,24 +142,32 @@ fn five_records(heap: Global) -> Result<Vec<u8>, AllocError> {
     Ok(file)
 }
 
-const FIVE_THEN_ENDED: [(u8, u64, u64); 7] = [
-    (0, 1, 0),
-    (0, 3, 4),
-    (1, 32, 0),
-    (1, 0, 0),
-    (1, 0, 0),
-    (8, 0, 0),
-    (8, 0, 0),
+const fn refused(reason: Reason, first: u64) -> Refusal {
+    Refusal {
+        reason,
+        first,
+        second: 0,
+    }
+}
+
+const FIVE_THEN_ENDED: [Peek; 7] = [
+    Ok((1, 0)),
+    Ok((3, 4)),
+    Err(refused(Reason::Cut, 32)),
+    Err(refused(Reason::Cut, 0)),
+    Err(refused(Reason::Cut, 0)),
+    Err(refused(Reason::Ended, 0)),
+    Err(refused(Reason::Ended, 0)),
 ];
 
-const FIVE_THEN_CUT: [(u8, u64, u64); 7] = [
-    (0, 1, 0),
-    (0, 3, 4),
-    (1, 32, 0),
-    (1, 0, 0),
-    (1, 0, 0),
-    (6, 289, 0),
-    (6, 289, 0),
+const FIVE_THEN_CUT: [Peek; 7] = [
+    Ok((1, 0)),
+    Ok((3, 4)),
+    Err(refused(Reason::Cut, 32)),
+    Err(refused(Reason::Cut, 0)),
+    Err(refused(Reason::Cut, 0)),
+    Err(refused(Reason::FileCut, 289)),
+    Err(refused(Reason::FileCut, 289)),
 ];
 
 #[test]
@@ -179,5 +179,5 @@ fn peeking(rt: HostRuntime) -> Result<(), Fail> {
     peeks_agree("cut in the length", file.as_slice(), &FIVE_THEN_CUT)?;
     file.extend_from_slice(&[0, 1, 2, 3])?;
     peeks_agree("cut in the block", file.as_slice(), &FIVE_THEN_CUT)?;
-    peeks_agree("empty", &[], &[(8, 0, 0)])
+    peeks_agree("empty", &[], &[Err(refused(Reason::Ended, 0))])
 }

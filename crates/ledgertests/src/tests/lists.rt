@@ -1,15 +1,18 @@
 // Blocks and lists of calls with their answers.
 use crate::block::{Pay, Spend, coinbase_block, spending_block, to_seven};
-use crate::calls::{Answer, Call};
+use crate::calls::{
+    Answer, Call, balance, coin, connected, disconnected, look, next, refused, start, tip, worth,
+};
+use refusal::Reason;
 use std::alloc::{AllocError, Global};
 
-const NOT_STARTED: Answer = Answer::Refused(44, 0, 0);
+const NOT_STARTED: Answer = refused(Reason::NotStarted, 0, 0);
 
-const PARAMETER: Answer = Answer::Refused(41, 0, 0);
+const PARAMETER: Answer = refused(Reason::Parameter, 0, 0);
 
-const STARTED: Answer = Answer::Refused(43, 0, 0);
+const STARTED: Answer = refused(Reason::Started, 0, 0);
 
-const NOTHING: Answer = Answer::Refused(40, 0, 0);
+const NOTHING: Answer = refused(Reason::Nothing, 0, 0);
 
 // Every call before the start, starts out of range, and starts after the first. The blocks are `plain_blocks`.
 pub const STARTING: [(Call, Answer); 24] = [
@@ -18,40 +21,34 @@ pub const STARTING: [(Call, Answer); 24] = [
     (Call::Settle(3), NOT_STARTED),
     (Call::Flush, NOT_STARTED),
     (Call::Tip, NOT_STARTED),
-    (Call::Look(101, 0), NOT_STARTED),
+    (look(101, 0), NOT_STARTED),
     (Call::First, NOT_STARTED),
-    (Call::Next(101, 0), NOT_STARTED),
-    (Call::Balance(1, 7), NOT_STARTED),
-    (Call::Start(0, 1, 1), PARAMETER),
-    (Call::Start(210_001, 1, 1), PARAMETER),
-    (Call::Start(1, 0, 1), PARAMETER),
-    (Call::Start(1, 101, 1), PARAMETER),
-    (Call::Start(1, 1, 0), PARAMETER),
-    (Call::Start(1, 1, 4_294_967_296), PARAMETER),
+    (next(101, 0), NOT_STARTED),
+    (balance(1, 7), NOT_STARTED),
+    (start(0, 1, 1), PARAMETER),
+    (start(210_001, 1, 1), PARAMETER),
+    (start(1, 0, 1), PARAMETER),
+    (start(1, 101, 1), PARAMETER),
+    (start(1, 1, 0), PARAMETER),
+    (start(1, 1, 4_294_967_296), PARAMETER),
     (Call::Tip, NOT_STARTED),
-    (Call::Start(210_000, 100, 4_294_967_295), Answer::Done),
-    (Call::Tip, Answer::Tip(0, 0)),
-    (Call::Start(1, 1, 1), STARTED),
-    (
-        Call::Connect(0),
-        Answer::Connected(1, 1, 0, 0, 4_999_999_999),
-    ),
-    (Call::Start(0, 0, 0), STARTED),
-    (
-        Call::Connect(1),
-        Answer::Connected(2, 1, 0, 0, 4_999_999_998),
-    ),
-    (Call::Tip, Answer::Tip(2, 2)),
-    (Call::Balance(1, 7), Answer::Balance(2, 3)),
+    (start(210_000, 100, 4_294_967_295), Answer::Done),
+    (Call::Tip, tip(0, 0)),
+    (start(1, 1, 1), STARTED),
+    (Call::Connect(0), connected(1, 1, 0, 0, 4_999_999_999)),
+    (start(0, 0, 0), STARTED),
+    (Call::Connect(1), connected(2, 1, 0, 0, 4_999_999_998)),
+    (Call::Tip, tip(2, 2)),
+    (balance(1, 7), worth(2, 3)),
 ];
 
 // A start over a view that holds a coin.
 pub const OVER_COINS: [(Call, Answer); 5] = [
-    (Call::Start(1, 1, 1), Answer::Refused(42, 0, 0)),
-    (Call::Start(0, 1, 1), PARAMETER),
+    (start(1, 1, 1), refused(Reason::NotEmpty, 0, 0)),
+    (start(0, 1, 1), PARAMETER),
     (Call::Tip, NOT_STARTED),
     (Call::Flush, NOT_STARTED),
-    (Call::Start(1, 1, 1), Answer::Refused(42, 0, 0)),
+    (start(1, 1, 1), refused(Reason::NotEmpty, 0, 0)),
 ];
 
 // Block n of 4 pays n.
@@ -65,46 +62,28 @@ pub fn plain_blocks(heap: Global) -> Result<Vec<Vec<u8>>, AllocError> {
 
 // Over `plain_blocks`.
 pub const SETTLING: [(Call, Answer); 23] = [
-    (Call::Start(100, 1, 50), Answer::Done),
+    (start(100, 1, 50), Answer::Done),
     (Call::Settle(3), Answer::Kept(0)),
     (Call::Disconnect, NOTHING),
-    (
-        Call::Connect(0),
-        Answer::Connected(1, 1, 0, 0, 4_999_999_999),
-    ),
-    (
-        Call::Connect(1),
-        Answer::Connected(2, 1, 0, 0, 4_999_999_998),
-    ),
-    (
-        Call::Connect(2),
-        Answer::Connected(3, 1, 0, 0, 4_999_999_997),
-    ),
-    (
-        Call::Connect(3),
-        Answer::Connected(4, 1, 0, 0, 4_999_999_996),
-    ),
+    (Call::Connect(0), connected(1, 1, 0, 0, 4_999_999_999)),
+    (Call::Connect(1), connected(2, 1, 0, 0, 4_999_999_998)),
+    (Call::Connect(2), connected(3, 1, 0, 0, 4_999_999_997)),
+    (Call::Connect(3), connected(4, 1, 0, 0, 4_999_999_996)),
     (Call::Settle(9), Answer::Kept(4)),
     (Call::Settle(2), Answer::Kept(2)),
     (Call::Settle(3), Answer::Kept(2)),
-    (Call::Disconnect, Answer::Disconnected(4, true)),
-    (Call::Disconnect, Answer::Disconnected(3, true)),
+    (Call::Disconnect, disconnected(4)),
+    (Call::Disconnect, disconnected(3)),
     (Call::Disconnect, NOTHING),
-    (Call::Tip, Answer::Tip(2, 2)),
-    (Call::Balance(1, 7), Answer::Balance(2, 3)),
-    (
-        Call::Connect(2),
-        Answer::Connected(3, 1, 0, 0, 4_999_999_997),
-    ),
+    (Call::Tip, tip(2, 2)),
+    (balance(1, 7), worth(2, 3)),
+    (Call::Connect(2), connected(3, 1, 0, 0, 4_999_999_997)),
     (Call::Settle(0), Answer::Kept(0)),
     (Call::Disconnect, NOTHING),
-    (Call::Tip, Answer::Tip(3, 3)),
+    (Call::Tip, tip(3, 3)),
     (Call::Settle(18_446_744_073_709_551_615), Answer::Kept(0)),
-    (
-        Call::Connect(3),
-        Answer::Connected(4, 1, 0, 0, 4_999_999_996),
-    ),
-    (Call::Disconnect, Answer::Disconnected(4, true)),
+    (Call::Connect(3), connected(4, 1, 0, 0, 4_999_999_996)),
+    (Call::Disconnect, disconnected(4)),
     (Call::Disconnect, NOTHING),
 ];
 
@@ -119,46 +98,22 @@ pub fn wide_blocks(heap: Global) -> Result<Vec<Vec<u8>>, AllocError> {
 
 // Over `wide_blocks`: a settle frees entries for the block that found too few.
 pub const CROWDING: [(Call, Answer); 16] = [
-    (Call::Start(100, 1, 50), Answer::Done),
-    (
-        Call::Connect(0),
-        Answer::Connected(1, 64, 0, 0, 4_999_999_936),
-    ),
-    (
-        Call::Connect(1),
-        Answer::Connected(2, 64, 0, 0, 4_999_999_936),
-    ),
-    (
-        Call::Connect(2),
-        Answer::Connected(3, 64, 0, 0, 4_999_999_936),
-    ),
-    (
-        Call::Connect(3),
-        Answer::Connected(4, 64, 0, 0, 4_999_999_936),
-    ),
-    (
-        Call::Connect(4),
-        Answer::Connected(5, 64, 0, 0, 4_999_999_936),
-    ),
-    (
-        Call::Connect(5),
-        Answer::Connected(6, 64, 0, 0, 4_999_999_936),
-    ),
-    (
-        Call::Connect(6),
-        Answer::Connected(7, 64, 0, 0, 4_999_999_936),
-    ),
-    (Call::Connect(7), Answer::Refused(12, 0, 0)),
+    (start(100, 1, 50), Answer::Done),
+    (Call::Connect(0), connected(1, 64, 0, 0, 4_999_999_936)),
+    (Call::Connect(1), connected(2, 64, 0, 0, 4_999_999_936)),
+    (Call::Connect(2), connected(3, 64, 0, 0, 4_999_999_936)),
+    (Call::Connect(3), connected(4, 64, 0, 0, 4_999_999_936)),
+    (Call::Connect(4), connected(5, 64, 0, 0, 4_999_999_936)),
+    (Call::Connect(5), connected(6, 64, 0, 0, 4_999_999_936)),
+    (Call::Connect(6), connected(7, 64, 0, 0, 4_999_999_936)),
+    (Call::Connect(7), refused(Reason::LogFull, 0, 0)),
     (Call::Settle(6), Answer::Kept(6)),
-    (
-        Call::Connect(7),
-        Answer::Connected(8, 64, 0, 0, 4_999_999_936),
-    ),
-    (Call::Balance(1, 7), Answer::Balance(512, 512)),
+    (Call::Connect(7), connected(8, 64, 0, 0, 4_999_999_936)),
+    (balance(1, 7), worth(512, 512)),
     (Call::Settle(1), Answer::Kept(1)),
-    (Call::Disconnect, Answer::Disconnected(8, true)),
+    (Call::Disconnect, disconnected(8)),
     (Call::Disconnect, NOTHING),
-    (Call::Balance(1, 7), Answer::Balance(448, 448)),
+    (balance(1, 7), worth(448, 448)),
 ];
 
 const TWO_OF_ONE: [Spend; 2] = [
@@ -190,27 +145,18 @@ pub fn tight_blocks(heap: Global) -> Result<Vec<Vec<u8>>, AllocError> {
 
 // Over `tight_blocks`: a coin that is there already is told before a full view.
 pub const FILLING: [(Call, Answer); 12] = [
-    (Call::Start(100, 1, 50), Answer::Done),
-    (
-        Call::Connect(0),
-        Answer::Connected(1, 2, 0, 0, 4_999_997_000),
-    ),
-    (Call::Connect(1), Answer::Refused(34, 0, 1)),
-    (Call::Connect(2), Answer::Refused(34, 1, 1)),
-    (
-        Call::Connect(3),
-        Answer::Connected(2, 3, 2, 2200, 5_000_002_190),
-    ),
-    (Call::Connect(4), Answer::Refused(33, 0, 0)),
-    (Call::Connect(5), Answer::Refused(34, 0, 0)),
-    (Call::Balance(1, 7), Answer::Balance(3, 810)),
-    (Call::Disconnect, Answer::Disconnected(2, true)),
-    (Call::Balance(1, 7), Answer::Balance(2, 3000)),
-    (Call::Connect(2), Answer::Refused(34, 1, 1)),
-    (
-        Call::Connect(3),
-        Answer::Connected(2, 3, 2, 2200, 5_000_002_190),
-    ),
+    (start(100, 1, 50), Answer::Done),
+    (Call::Connect(0), connected(1, 2, 0, 0, 4_999_997_000)),
+    (Call::Connect(1), refused(Reason::Full, 0, 1)),
+    (Call::Connect(2), refused(Reason::Full, 1, 1)),
+    (Call::Connect(3), connected(2, 3, 2, 2200, 5_000_002_190)),
+    (Call::Connect(4), refused(Reason::Exists, 0, 0)),
+    (Call::Connect(5), refused(Reason::Full, 0, 0)),
+    (balance(1, 7), worth(3, 810)),
+    (Call::Disconnect, disconnected(2)),
+    (balance(1, 7), worth(2, 3000)),
+    (Call::Connect(2), refused(Reason::Full, 1, 1)),
+    (Call::Connect(3), connected(2, 3, 2, 2200, 5_000_002_190)),
 ];
 
 // Outputs to badge 7, to badge 8, burned, and to the clock of height 5.
@@ -292,62 +238,50 @@ pub fn mixed_blocks(heap: Global) -> Result<Vec<Vec<u8>>, AllocError> {
 
 // Over `mixed_blocks`: every reading at the start, after one block, after two, and on the way back.
 pub const READING: [(Call, Answer); 38] = [
-    (Call::Start(100, 1, 50), Answer::Done),
+    (start(100, 1, 50), Answer::Done),
     (Call::First, Answer::NoCoin),
-    (Call::Look(101, 0), Answer::NoCoin),
-    (Call::Balance(1, 7), Answer::Balance(0, 0)),
-    (
-        Call::Connect(0),
-        Answer::Connected(1, 3, 0, 0, 4_999_993_000),
-    ),
-    (Call::Tip, Answer::Tip(1, 1)),
-    (Call::First, Answer::Coin(101, 0, 1000)),
-    (Call::Next(101, 0), Answer::Coin(101, 1, 2000)),
-    (Call::Next(101, 1), Answer::Coin(101, 3, 4000)),
-    (Call::Next(101, 2), Answer::Coin(101, 3, 4000)),
-    (Call::Next(101, 3), Answer::NoCoin),
-    (Call::Next(50, 9), Answer::Coin(101, 0, 1000)),
-    (Call::Next(200, 0), Answer::NoCoin),
-    (Call::Look(101, 1), Answer::Coin(101, 1, 2000)),
-    (Call::Look(101, 2), Answer::NoCoin),
-    (Call::Balance(1, 8), Answer::Balance(1, 2000)),
-    (Call::Balance(2, 5), Answer::Balance(1, 4000)),
-    (Call::Balance(0, 0), Answer::Balance(0, 0)),
-    (
-        Call::Connect(1),
-        Answer::Connected(2, 2, 2, 500, 5_000_000_495),
-    ),
-    (Call::Tip, Answer::Tip(2, 2)),
-    (Call::First, Answer::Coin(101, 3, 4000)),
-    (Call::Next(101, 3), Answer::Coin(102, 0, 5)),
-    (Call::Next(102, 0), Answer::Coin(202, 0, 2500)),
-    (Call::Next(202, 0), Answer::NoCoin),
-    (Call::Balance(1, 7), Answer::Balance(2, 2505)),
-    (Call::Connect(1), Answer::Refused(10, 0, 0)),
-    (Call::Connect(2), Answer::Refused(32, 1, 1)),
-    (Call::Connect(3), Answer::Refused(30, 1, 1)),
-    (Call::Connect(4), Answer::Refused(14, 0, 0)),
+    (look(101, 0), Answer::NoCoin),
+    (balance(1, 7), worth(0, 0)),
+    (Call::Connect(0), connected(1, 3, 0, 0, 4_999_993_000)),
+    (Call::Tip, tip(1, 1)),
+    (Call::First, coin(101, 0, 1000)),
+    (next(101, 0), coin(101, 1, 2000)),
+    (next(101, 1), coin(101, 3, 4000)),
+    (next(101, 2), coin(101, 3, 4000)),
+    (next(101, 3), Answer::NoCoin),
+    (next(50, 9), coin(101, 0, 1000)),
+    (next(200, 0), Answer::NoCoin),
+    (look(101, 1), coin(101, 1, 2000)),
+    (look(101, 2), Answer::NoCoin),
+    (balance(1, 8), worth(1, 2000)),
+    (balance(2, 5), worth(1, 4000)),
+    (balance(0, 0), worth(0, 0)),
+    (Call::Connect(1), connected(2, 2, 2, 500, 5_000_000_495)),
+    (Call::Tip, tip(2, 2)),
+    (Call::First, coin(101, 3, 4000)),
+    (next(101, 3), coin(102, 0, 5)),
+    (next(102, 0), coin(202, 0, 2500)),
+    (next(202, 0), Answer::NoCoin),
+    (balance(1, 7), worth(2, 2505)),
+    (Call::Connect(1), refused(Reason::Parent, 0, 0)),
+    (Call::Connect(2), refused(Reason::Shut, 1, 1)),
+    (Call::Connect(3), refused(Reason::Missing, 1, 1)),
+    (Call::Connect(4), refused(Reason::Claim, 0, 0)),
     (Call::Flush, Answer::Done),
-    (Call::Disconnect, Answer::Disconnected(2, true)),
-    (Call::Tip, Answer::Tip(1, 1)),
-    (Call::Look(101, 0), Answer::Coin(101, 0, 1000)),
-    (Call::Look(202, 0), Answer::NoCoin),
-    (Call::Disconnect, Answer::Disconnected(1, true)),
-    (Call::Tip, Answer::Tip(0, 0)),
+    (Call::Disconnect, disconnected(2)),
+    (Call::Tip, tip(1, 1)),
+    (look(101, 0), coin(101, 0, 1000)),
+    (look(202, 0), Answer::NoCoin),
+    (Call::Disconnect, disconnected(1)),
+    (Call::Tip, tip(0, 0)),
     (Call::First, Answer::NoCoin),
     (Call::Disconnect, NOTHING),
 ];
 
 // Over `mixed_blocks`: coins that were flushed are spent.
 pub const UNFLUSHED: [(Call, Answer); 4] = [
-    (Call::Start(100, 1, 50), Answer::Done),
-    (
-        Call::Connect(0),
-        Answer::Connected(1, 3, 0, 0, 4_999_993_000),
-    ),
+    (start(100, 1, 50), Answer::Done),
+    (Call::Connect(0), connected(1, 3, 0, 0, 4_999_993_000)),
     (Call::Flush, Answer::Done),
-    (
-        Call::Connect(1),
-        Answer::Connected(2, 2, 2, 500, 5_000_000_495),
-    ),
+    (Call::Connect(1), connected(2, 2, 2, 500, 5_000_000_495)),
 ];

@@ -1,6 +1,6 @@
 // The lists over a flat table, a quota, and caches over them.
 use crate::calls::{Answer, Call};
-use crate::state::{stand_first, state_of};
+use crate::state::state_of;
 use crate::tests::lists::{
     CROWDING, FILLING, OVER_COINS, READING, SETTLING, STARTING, UNFLUSHED, mixed_blocks,
     plain_blocks, tight_blocks, wide_blocks,
@@ -18,6 +18,7 @@ use std::test::Fail;
 use views::condition::Badge;
 use views::pile::{cached_quota, cached_table};
 
+// Cells that hold something, so that a table shows whether it empties them.
 const CELL: (Outpoint, Coin) = (
     Outpoint {
         id: [9; 32],
@@ -104,9 +105,9 @@ fn flushing(rt: HostRuntime) -> Result<(), Fail> {
     let mut cells = [CELL; 8];
     let coins = coins_after(heap, &mut cells, false)?;
     assert!(rt; coins.len() == 3);
-    assert!(rt; !stand_first(&cells, coins.as_slice()));
+    assert!(rt; !cells.starts_with(coins.as_slice()));
     let coins = coins_after(heap, &mut cells, true)?;
     assert!(rt; coins.len() == 3);
-    assert!(rt; stand_first(&cells, coins.as_slice()));
+    assert!(rt; cells.starts_with(coins.as_slice()));
     Ok(())
 }

@@ -1,24 +1,18 @@
-use Rattle.std.proofs.Common.{◌≡◌, ◌+◌, ◌<◌, ◌≤◌, length, refl, arith}
-use Rattle.coinsview.specs.Meaning.{with_coin}
-use Rattle.coinsview.specs.Table.{empty_cell, used_cells}
-use Rattle.coinsview.proofs.Puts.{put_exists, put_yes}
-use Rattle.coinsview.proofs.Tables.{many, gap, grown, ok_with}
+use Rattle.std.proofs.Common.{length, arith}
+use Rattle.coinsview.specs.Table.{coins_of, empty_cell}
+use Rattle.coinsview.proofs.Puts.{put_exists}
+use Rattle.coinsview.proofs.Tables.{put_map, put_ok}
 use Rattle.coinsview.proofs.table.FlatTableCoinsView.put.Goals as goal
 
-pub insert_at-requires : goal.insert_at-requires
-insert_at-requires c = record { within = omega (arith, c.capacity.ensures, c.if-used-capacity.false, c.requires.within); inside = gap _ _ _ c.requires _ c.in-Err.ensures }
+pub returns-in_default-clause-value : goal.returns-in_default-clause-value
+returns-in_default-clause-value c = let s = c.args.self.now in put_exists (length s.cells.now) c.args.at (coins_of s) _ (c.in_default.ensures.found.2 empty_cell)
 
-pub returns-in-Ok : goal.returns-in-Ok
-returns-in-Ok c =
-    let s = c.args.self.now in
-    record { well = c.requires; fixed = refl; map = refl; value = put_exists (length s.cells.now) c.args.at (used_cells s.used s.cells.now) _ (c.in-Ok.ensures.2 empty_cell) }
+pub returns-clause-well : goal.returns-clause-well
+returns-clause-well c =
+    let h = c.copy_within.ensures in
+    put_ok _ _ _ c.requires _ _ h.len _ c.in-Err.ensures.found (omega (arith, c.requires.within)) h.by_index.0 h.by_index.1
 
-pub returns-else-used-capacity : goal.returns-else-used-capacity
-returns-else-used-capacity c =
-    let s = c.args.self.now in
-    let m = used_cells s.used s.cells.now in
-    let room : length m < length s.cells.now = omega (arith, many c.args.at s.used s.cells.now c.requires 0, c.capacity.ensures, c.if-used-capacity.false, c.requires.within) in
-    let long : length c.insert_at.new.cells ≡ length s.cells.now = omega arith in
-    let fits : s.used + 1 ≤ length s.cells.now = omega (arith, c.capacity.ensures, c.if-used-capacity.false, c.requires.within) in
-    let map : used_cells (s.used + 1) c.insert_at.new.cells ≡ with_coin c.args.at c.args.coin m = grown _ _ _ c.requires _ _ _ c.in-Err.ensures c.insert_at.ensures in
-    record { well = ok_with _ _ _ _ _ c.requires long fits _ map; fixed = long; map = map; value = put_yes (length s.cells.now) c.args.at m c.in-Err.ensures.2 room }
+pub returns-clause-map : goal.returns-clause-map
+returns-clause-map c =
+    let h = c.copy_within.ensures in
+    put_map _ _ _ c.requires _ _ h.len _ c.in-Err.ensures.found (omega (arith, c.requires.within)) h.by_index.0 h.by_index.1
