@@ -2,7 +2,7 @@
 --     checks      what is tested before a coin is touched
 --     needs       the undo entries that a block needs
 --     effect      the transactions applied in order, and the coinbase's claim
-use Rattle.std.specs.Prelude.{◌≡◌, ℕ, ◌+◌, ◌-◌, ◌<◌, ◌≤◌, Bool, true, false, cond, ◌&&◌, ◌⊎◌, List, [], ◌∷◌, length, Some, None, Ok, Err, Option, Result, ◌==◌, nat_le, nat_lt}
+use Rattle.std.specs.Prelude.{◌≡◌, ℕ, ◌+◌, ◌-◌, ◌^◌, ◌<◌, ◌≤◌, Bool, true, false, cond, ◌&&◌, ◌⊎◌, List, [], ◌∷◌, length, Some, None, Ok, Err, Option, Result, ◌==◌, nat_le, nat_lt}
 use Rattle.std.specs.declared.cmp.Ordering.TheVariants.{Less, Equal, Greater}
 use Rattle.std.specs.declared.cmp.Ordering.{Ordering}
 use Rattle.std.proofs.Common.{inl, inr}
@@ -183,6 +183,10 @@ module _ (room h : ℕ) where
 
 abbrev pub none : Sums
 none = record { made = 0; spent = 0; fees = 0; burned = 0 }
+
+-- sums that can be added
+abbrev pub Fit : Sums → Sums → Type 0
+Fit a b = (a.made + b.made < 2 ^ 64) × (a.spent + b.spent < 2 ^ 64) × (a.fees + b.fees < 2 ^ 64) × (a.burned + b.burned < 2 ^ 64)
 
 abbrev pub added : Sums → Sums → Sums
 added a b = record { made = a.made + b.made; spent = a.spent + b.spent; fees = a.fees + b.fees; burned = a.burned + b.burned }
