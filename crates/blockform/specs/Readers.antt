@@ -27,7 +27,7 @@ transactions_of r = list_at r.left (transaction_at r.block.now) (transaction_end
 unfoldable pub block_of : Block → BlockValue
 block_of r = block_at r.bytes.now
 
--- what is left of a reader is well formed: a read block gives this, and each call needs and keeps it
+-- what is left of a reader is well formed
 unfoldable pub ItemsGood : Items → Type 0
 ItemsGood r = (r.left ≤ 64) × (is_ok (times r.left (item r.inputs r.block.now) r.place) ≡ true)
 
@@ -36,6 +36,19 @@ TransactionsGood r = (r.left ≤ 64) × (is_ok (times r.left (transaction r.bloc
 
 unfoldable pub BlockGood : Block → Type 0
 BlockGood r = is_ok (block r.bytes.now) ≡ true
+
+-- each reader carries that it is
+pub items_good : (r : Items) → ItemsGood r
+unfolding ItemsGood
+items_good r = (r.few, r.good)
+
+pub transactions_good : (r : Transactions) → TransactionsGood r
+unfolding TransactionsGood
+transactions_good r = (r.few, r.good)
+
+pub block_good : (r : Block) → BlockGood r
+unfolding BlockGood
+block_good r = r.good
 
 -- the offset in the block of what comes next
 unfoldable pub next_item : Items → ℕ

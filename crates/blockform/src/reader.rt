@@ -1,4 +1,8 @@
 // Readers over bytes that were accepted as a block. What is left of each is well formed, so reading has no fault.
+ghost use Rattle.std.specs.Prelude.{◌≡◌, ◌≤◌, true, is_ok};
+ghost use Rattle.std.proofs.Props.{props};
+ghost use Rattle.blockbytes.specs.Form.{times, item, transaction as transaction_form, block as block_form};
+
 use coins::coin::Lock;
 
 mod accepted;
@@ -29,6 +33,8 @@ pub struct Items<'a> {
     place: usize,
     left: usize,
     inputs: bool,
+    pub ghost few: { left ≤ 64 },
+    pub ghost good: { is_ok (times left (item inputs block.now) place) ≡ true } by { Prim.hlevel props },
 }
 
 // A transaction, with the offset in the block at which it begins.
@@ -46,10 +52,13 @@ pub struct Transactions<'a> {
     block: &'a [u8],
     place: usize,
     left: usize,
+    pub ghost few: { left ≤ 64 },
+    pub ghost good: { is_ok (times left (transaction_form block.now) place) ≡ true } by { Prim.hlevel props },
 }
 
 // The bytes of a block.
 #[derive(Clone, Copy)]
 pub struct Block<'a> {
     bytes: &'a [u8],
+    pub ghost good: { is_ok (block_form bytes.now) ≡ true } by { Prim.hlevel props },
 }

@@ -26,21 +26,18 @@ impl<'a> Block<'a> {
     }
 
     pub fn id(&self) -> &'a [u8; 32]
-        requires { BlockGood self.now }
         ensures { result.now ≡ (block_of self.now).id }
     {
         id_at(self.bytes, 0)
     }
 
     pub fn previous(&self) -> &'a [u8; 32]
-        requires { BlockGood self.now }
         ensures { result.now ≡ (block_of self.now).previous }
     {
         id_at(self.bytes, 32)
     }
 
     pub fn transactions(&self) -> Transactions<'a>
-        requires { BlockGood self.now }
         ensures good { TransactionsGood result }
         ensures all { transactions_of result ≡ (block_of self.now).transactions }
         ensures offset { next_transaction result ≡ 65 }

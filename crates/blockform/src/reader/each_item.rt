@@ -9,7 +9,6 @@ use crate::reader::{Item, Items};
 impl<'a> Items<'a> {
     // How many are still to come.
     pub fn len(&self) -> usize
-        requires { ItemsGood self.now }
         ensures is { result ≡ length (items_of self.now) }
         ensures few { result ≤ 64 }
     {
@@ -18,7 +17,6 @@ impl<'a> Items<'a> {
 
     // The next input or output; `None` after the last.
     pub fn next(&mut self) -> Option<Item<'a>>
-        requires { ItemsGood self.old }
         ensures good { ItemsGood self.new }
         ensures hands { MatchOption result ((items_of self.old ≡ []) × (items_of self.new ≡ [])) (λ i. items_of self.old ≡ piece_of i ∷ items_of self.new) }
         ensures offset { IfSome result (λ i. (offset_of i ≡ next_item self.old) × (next_item self.new ≡ next_item self.old + length (encode_piece (piece_of i)))) }
@@ -28,11 +26,8 @@ impl<'a> Items<'a> {
             return None;
         }
         let (next, end) = item(self.block, self.place, self.inputs);
-        *self = Items {
-            place: end,
-            left: self.left - 1,
-            ..*self
-        };
+        self.place = end;
+        self.left -= 1;
         Some(next)
     }
 }

@@ -9,7 +9,6 @@ use crate::reader::{Items, Transaction, Transactions};
 impl<'a> Transactions<'a> {
     // How many are still to come.
     pub fn len(&self) -> usize
-        requires { TransactionsGood self.now }
         ensures is { result ≡ length (transactions_of self.now) }
         ensures few { result ≤ 64 }
     {
@@ -18,7 +17,6 @@ impl<'a> Transactions<'a> {
 
     // The next transaction; `None` after the last.
     pub fn next(&mut self) -> Option<Transaction<'a>>
-        requires { TransactionsGood self.old }
         ensures good { TransactionsGood self.new }
         ensures hands { MatchOption result ((transactions_of self.old ≡ []) × (transactions_of self.new ≡ [])) (λ t. (v : TransactionValue) × Hands t v × (transactions_of self.old ≡ v ∷ transactions_of self.new) × (next_transaction self.new ≡ next_transaction self.old + length (encode_transaction v)) × (t.offset ≡ next_transaction self.old)) }
     {
@@ -42,11 +40,8 @@ impl<'a> Transactions<'a> {
             left: block[end] as usize,
             inputs: false,
         };
-        *self = Transactions {
-            place: outputs.place + 17 * outputs.left,
-            left: self.left - 1,
-            ..*self
-        };
+        self.place = outputs.place + 17 * outputs.left;
+        self.left -= 1;
         Some(Transaction {
             id,
             offset,

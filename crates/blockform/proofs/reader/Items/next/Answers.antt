@@ -1,7 +1,7 @@
 use Rattle.std.proofs.Common.{arith}
 use Rattle.blockbytes.specs.Form.{item}
 use Rattle.blockbytes.specs.Places.{item_at, item_end}
-use Rattle.blockform.specs.Readers.{items_of, next_item, ItemsGood}
+use Rattle.blockform.specs.Readers.{items_of, next_item, items_good}
 use Rattle.blockbytes.proofs.Steps.{ok_is, times_first, times_taken, list_none, list_taken, item_ends}
 use Rattle.blockform.proofs.reader.Items.next.Goals as goal
 
@@ -10,22 +10,27 @@ unfolding items_of
 returns-then-self-eq0 c =
     let r = c.args.self.now in
     let e = list_none (item_at r.inputs r.block.now) (item_end r.inputs r.block.now) r.left r.place c.if-self-eq0.true in
-    record { good = c.requires; hands = (e, e); offset = tt; within = tt }
+    record { good = items_good _; hands = (e, e); offset = tt; within = tt }
 
 pub item-end-requires : goal.item-end-requires
-unfolding ItemsGood
 item-end-requires c =
     let r = c.args.self.now in
     let b = r.block.now in
-    ok_is _ _ (times_first (item r.inputs b) (item_end r.inputs b) (item_ends r.inputs b) r.left r.place (omega arith) c.requires.1).0
+    ok_is _ _ (times_first (item r.inputs b) (item_end r.inputs b) (item_ends r.inputs b) r.left r.place (omega arith) r.good).0
+
+pub invariant_of-self : goal.invariant_of-self
+invariant_of-self c =
+    let r = c.args.self.now in
+    let b = r.block.now in
+    record { few = omega arith; good = times_taken (item r.inputs b) (item_end r.inputs b) (item_ends r.inputs b) r.left r.place _ (omega arith) c.item-end.ensures.end r.good }
 
 pub returns : goal.returns
-unfolding items_of next_item ItemsGood
+unfolding items_of next_item
 returns c =
     let r = c.args.self.now in
     let b = r.block.now in
     record {
-      good = (omega (arith, c.requires.0), times_taken (item r.inputs b) (item_end r.inputs b) (item_ends r.inputs b) r.left r.place _ (omega arith) c.item-end.ensures.end c.requires.1);
+      good = items_good _;
       hands = list_taken (item_at r.inputs b) (item_end r.inputs b) r.left r.place _ _ (omega arith) c.item-end.ensures.piece c.item-end.ensures.end;
       offset = (c.item-end.ensures.offset, c.item-end.ensures.long);
       within = c.item-end.ensures.within;
