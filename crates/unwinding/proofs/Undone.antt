@@ -1,5 +1,5 @@
 -- A coin taken and noted, or put and noted, is found again on the way back. Assumes nothing.
-use Rattle.std.proofs.Common.{◌≡◌, ℕ, ◌≤◌, true, ◌&&◌, ltb, List, ◌∷◌, length, is_ok, Some, None, Ok, ap, ◌∙◌, arith, lt-ltb}
+use Rattle.std.proofs.Common.{◌≡◌, subst, ℕ, ◌≤◌, true, ◌&&◌, ltb, List, ◌∷◌, length, is_ok, Some, None, Ok, ap, ◌∙◌, arith, lt-ltb}
 use Rattle.coins.specs.declared.coin.Coin.{Coin}
 use Rattle.coins.specs.declared.outpoint.Outpoint.{Outpoint}
 use Rattle.coins.proofs.Equals.{coin_itself}
@@ -9,7 +9,11 @@ use Rattle.maps.proofs.Laws.{look_insert_same, look_remove_same, length_remove, 
 use Rattle.coinsview.specs.Meaning.{Coins, coin_at, with_coin, without, put_by, put_answer, put_map}
 use Rattle.undo.specs.declared.Record.{Record}
 use Rattle.undo.specs.declared.Record.TheVariants.{Made, Spent}
+use Rattle.coinsview.specs.declared.view.CoinsView.{Ghosts}
+use Rattle.undo.specs.Entries.{entries}
+use Rattle.unwinding.specs.declared.chainstate.Chainstate.{Chainstate}
 use Rattle.unwinding.specs.Undoing.{own, back}
+use Rattle.unwinding.specs.TakenBack.{TakenBack}
 
 module _ (room : ℕ) (es : List Record) (k : Outpoint) (c : Coin) (m : Coins) where
   -- a spent coin goes back where it was
@@ -26,3 +30,10 @@ module _ (room : ℕ) (es : List Record) (k : Outpoint) (c : Coin) (m : Coins) w
       ap (λ x. back room es (without k (with_coin k c m)) (own c x && true)) (look_insert_same outpoints k c m)
       ∙ ap (λ b. back room es (without k (with_coin k c m)) (b && true)) (coin_itself c)
       ∙ ap (λ n. back room es n true) (remove_insert outpoints k c m none)
+
+-- one step and then another
+pub taken_twice : {V : Type 0} (v : Ghosts V) (a b c : Chainstate V v) → TakenBack v a b → TakenBack v b c → TakenBack v a c
+taken_twice v a b c s t = record {
+  fixed = t.fixed ∙ s.fixed;
+  back = subst (λ room. back room (entries c.undo) (v.coins c.view) true ≡ back room (entries b.undo) (v.coins b.view) true) s.fixed t.back ∙ s.back;
+}
