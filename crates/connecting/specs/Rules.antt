@@ -170,16 +170,16 @@ module _ (opens : Lock → List ℕ → ℕ → Bool) (maturity h : ℕ) where
   spend_all i [] m paid = Ok (m, paid)
   spend_all i (x ∷ xs) m paid = then (at_item i (spend (coin_at x.outpoint m) x.witness)) (λ c. spend_all (i + 1) xs (without x.outpoint m) (paid + c.value))
 
-module _ (room h : ℕ) where
-  -- one output at place i of a transaction, by the coin that it makes
-  abbrev pub make : List ℕ → ℕ → Option Coin → Coins → Result Coins TransactionFault
-  make id i None m = Err (Money i)
-  make id i (Some c) m = then (at_item i (of_view (put_answer room (record { id = id; index = i }) m))) (λ _. Ok (with_coin (record { id = id; index = i }) c m))
+-- one output at place i of a transaction, by the coin that it makes
+abbrev pub make : ℕ → List ℕ → ℕ → Option Coin → Coins → Result Coins TransactionFault
+make room id i None m = Err (Money i)
+make room id i (Some c) m = then (at_item i (of_view (put_answer room (record { id = id; index = i }) m))) (λ _. Ok (with_coin (record { id = id; index = i }) c m))
 
+module _ (room h : ℕ) where
   -- the outputs from place i on, those that burn aside
   abbrev pub make_all : List ℕ → Bool → ℕ → List OutputValue → Coins → Result Coins TransactionFault
   make_all id b i [] m = Ok m
-  make_all id b i (y ∷ ys) m = then (cond (burns y) (Ok m) (make id i (coin_of y h b) m)) (λ n. make_all id b (i + 1) ys n)
+  make_all id b i (y ∷ ys) m = then (cond (burns y) (Ok m) (make room id i (coin_of y h b) m)) (λ n. make_all id b (i + 1) ys n)
 
 abbrev pub none : Sums
 none = record { made = 0; spent = 0; fees = 0; burned = 0 }
