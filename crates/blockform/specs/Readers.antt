@@ -1,5 +1,6 @@
 -- What a reader still has to hand out.
-use Rattle.std.specs.Prelude.{◌≡◌, ℕ, ◌+◌, ◌≤◌, true, List, map, length, is_ok}
+use Rattle.std.specs.Prelude.{◌≡◌, ℕ, ◌+◌, ◌≤◌, true, List, [], ◌∷◌, map, length, is_ok, Option, IfSome, MatchOption}
+use Rattle.std.specs.Iterator.{YieldsFirstBy}
 use Rattle.blockbytes.specs.Form.{times, item, transaction, block}
 use Rattle.blockform.specs.declared.reader.Item.{Item}
 use Rattle.blockform.specs.declared.reader.Item.TheVariants.{Input, Output}
@@ -7,7 +8,7 @@ use Rattle.blockform.specs.declared.reader.Items.{Items}
 use Rattle.blockform.specs.declared.reader.Transaction.{Transaction}
 use Rattle.blockform.specs.declared.reader.Transactions.{Transactions}
 use Rattle.blockform.specs.declared.reader.Block.{Block}
-use Rattle.blockbytes.specs.Value.{TransactionValue, BlockValue, Piece, spends, makes, encode_all, encode_input}
+use Rattle.blockbytes.specs.Value.{TransactionValue, BlockValue, Piece, spends, makes, encode_all, encode_input, encode_piece, encode_transaction, PieceWithin}
 use Rattle.blockbytes.specs.Places.{list_at, item_at, item_end, transaction_at, transaction_end, block_at}
 
 abbrev pub piece_of : Item → Piece
@@ -66,3 +67,10 @@ pub record Hands (t : Transaction) (v : TransactionValue) : Type 0 where
   pub outputs : items_of t.outputs ≡ map makes v.outputs
   pub first_output : next_item t.outputs ≡ t.offset + 33 + length (encode_all encode_input v.inputs) + 1
   pub good_outputs : ItemsGood t.outputs
+
+-- a call hands out the first of what is left, with its place and the place of the next; or nothing was left
+abbrev pub HandsItem : Items → Option Item → Items → Type 0
+HandsItem s r t = YieldsFirstBy piece_of items_of s r t × IfSome r (λ i. (offset_of i ≡ next_item s) × (next_item t ≡ next_item s + length (encode_piece (piece_of i))) × PieceWithin (piece_of i))
+
+abbrev pub HandsTransaction : Transactions → Option Transaction → Transactions → Type 0
+HandsTransaction s r t = MatchOption r ((transactions_of s ≡ []) × (transactions_of t ≡ [])) (λ x. (v : TransactionValue) × Hands x v × (transactions_of s ≡ v ∷ transactions_of t) × (next_transaction t ≡ next_transaction s + length (encode_transaction v)) × (x.offset ≡ next_transaction s))

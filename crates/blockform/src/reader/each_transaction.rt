@@ -1,7 +1,7 @@
 // Transactions, handed out one after another.
-ghost use Rattle.std.specs.Prelude.{◌≡◌, ◌+◌, ◌≤◌, [], ◌∷◌, length, MatchOption};
-ghost use Rattle.blockbytes.specs.Value.{TransactionValue, encode_transaction};
-ghost use Rattle.blockform.specs.Readers.{transactions_of, next_transaction, TransactionsGood, Hands};
+ghost use Rattle.std.specs.Prelude.{◌≡◌, ◌≤◌, length};
+ghost use Rattle.std.specs.Iterator.{item_count};
+ghost use Rattle.blockform.specs.Readers.{transactions_of, HandsTransaction};
 
 use crate::reader::fields::{id_at, past_inputs};
 use crate::reader::{Items, Transaction, Transactions};
@@ -14,12 +14,17 @@ impl<'a> Transactions<'a> {
     {
         self.left
     }
+}
+
+impl<'a> Iterator for Transactions<'a> {
+    type Item = Transaction<'a>;
+
+    ghost next_gives = { HandsTransaction };
+
+    ghost remaining = { item_count transactions_of };
 
     // The next transaction; `None` after the last.
-    pub fn next(&mut self) -> Option<Transaction<'a>>
-        ensures good { TransactionsGood self.new }
-        ensures hands { MatchOption result ((transactions_of self.old ≡ []) × (transactions_of self.new ≡ [])) (λ t. (v : TransactionValue) × Hands t v × (transactions_of self.old ≡ v ∷ transactions_of self.new) × (next_transaction self.new ≡ next_transaction self.old + length (encode_transaction v)) × (t.offset ≡ next_transaction self.old)) }
-    {
+    fn next(&mut self) -> Option<Transaction<'a>> {
         if self.left == 0 {
             return None;
         }

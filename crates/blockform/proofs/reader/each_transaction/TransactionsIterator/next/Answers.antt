@@ -1,18 +1,19 @@
-use Rattle.std.proofs.Common.{◌≡◌, ◌+◌, ◌*◌, get_or, is_ok, refl, ap, ◌∙◌, arith}
+use Rattle.std.proofs.Common.{Some, None, ◌≡◌, ◌+◌, ◌*◌, get_or, is_ok, refl, ap, ◌∙◌, arith}
 use Rattle.blockbytes.specs.Form.{times, output, transaction}
 use Rattle.blockbytes.specs.Value.{spends, makes}
 use Rattle.blockbytes.specs.Places.{list_at, input_at, input_end, inputs_end, output_at, output_end, transaction_at, transaction_end}
-use Rattle.blockform.specs.Readers.{items_of, next_item, transactions_of, next_transaction, items_good, transactions_good}
+use Rattle.blockform.specs.Readers.{items_of, next_item, transactions_of, next_transaction, items_good}
 use Rattle.blockbytes.proofs.Steps.{list_none, list_taken, times_taken, map_list, transaction_ends}
 use Rattle.blockform.proofs.Walk.{next_found, inputs_long, transaction_long}
-use Rattle.blockform.proofs.reader.Transactions.next.Goals as goal
+use Rattle.blockform.proofs.Nearer.{nearer}
+use Rattle.blockform.proofs.reader.each_transaction.TransactionsIterator.next.Goals as goal
 
 pub returns-then-self-eq0 : goal.returns-then-self-eq0
 unfolding transactions_of
 returns-then-self-eq0 c =
     let r = c.args.self.now in
     let e = list_none (transaction_at r.block.now) (transaction_end r.block.now) r.left r.place c.if-self-eq0.true in
-    record { good = transactions_good _; hands = (e, e) }
+    record { steps = (e, e); goes = nearer transactions_of _ _ None tt }
 
 pub id_at-id-requires : goal.id_at-id-requires
 id_at-id-requires c = omega (arith, (next_found c.args.self.now c.if-self-eq0.false).id)
@@ -74,9 +75,9 @@ returns c =
     let mid : c.past_inputs-end.result ≡ inputs_end b at = c.past_inputs-end.ensures in
     let m = ap (λ k. get_or b k 0) mid in
     let end : c.past_inputs-end.result + 1 + 17 * get_or b c.past_inputs-end.result 0 ≡ transaction_end b at = omega (arith, f.end) in
+    let taken = list_taken (transaction_at b) (transaction_end b) r.left at _ _ (omega arith) refl end in
     record {
-      good = transactions_good _;
-      hands = (
+      steps = (
         transaction_at b at,
         record {
           id = c.id_at-id.ensures;
@@ -87,8 +88,9 @@ returns c =
           good_inputs = items_good _;
           good_outputs = items_good _;
         },
-        list_taken (transaction_at b) (transaction_end b) r.left at _ _ (omega arith) refl end,
+        taken,
         end ∙ transaction_long b r.left at f,
         refl,
       );
+      goes = nearer transactions_of _ _ (Some _) (_, taken);
     }

@@ -1,16 +1,17 @@
-use Rattle.std.proofs.Common.{arith}
+use Rattle.std.proofs.Common.{Some, None, arith}
 use Rattle.blockbytes.specs.Form.{item}
 use Rattle.blockbytes.specs.Places.{item_at, item_end}
-use Rattle.blockform.specs.Readers.{items_of, next_item, items_good}
+use Rattle.blockform.specs.Readers.{items_of, next_item}
 use Rattle.blockbytes.proofs.Steps.{ok_is, times_first, times_taken, list_none, list_taken, item_ends}
-use Rattle.blockform.proofs.reader.Items.next.Goals as goal
+use Rattle.blockform.proofs.Nearer.{nearer}
+use Rattle.blockform.proofs.reader.each_item.ItemsIterator.next.Goals as goal
 
 pub returns-then-self-eq0 : goal.returns-then-self-eq0
 unfolding items_of
 returns-then-self-eq0 c =
     let r = c.args.self.now in
     let e = list_none (item_at r.inputs r.block.now) (item_end r.inputs r.block.now) r.left r.place c.if-self-eq0.true in
-    record { good = items_good _; hands = (e, e); offset = tt; within = tt }
+    record { steps = ((e, e), tt); goes = nearer items_of _ _ None tt }
 
 pub item-end-requires : goal.item-end-requires
 item-end-requires c =
@@ -29,9 +30,6 @@ unfolding items_of next_item
 returns c =
     let r = c.args.self.now in
     let b = r.block.now in
-    record {
-      good = items_good _;
-      hands = list_taken (item_at r.inputs b) (item_end r.inputs b) r.left r.place _ _ (omega arith) c.item-end.ensures.piece c.item-end.ensures.end;
-      offset = (c.item-end.ensures.offset, c.item-end.ensures.long);
-      within = c.item-end.ensures.within;
-    }
+    let i = c.item-end.ensures in
+    let e = list_taken (item_at r.inputs b) (item_end r.inputs b) r.left r.place _ _ (omega arith) i.piece i.end in
+    record { steps = (e, (i.offset, i.long, i.within)); goes = nearer items_of _ _ (Some _) (_, e) }
