@@ -1,5 +1,5 @@
 -- One coin taken or put: what the rules say of it. Assumes nothing.
-use Rattle.std.proofs.Common.{◌≡◌, ℕ, ◌+◌, ◌<◌, ◌≤◌, Bool, true, false, leb, ◌⊎◌, List, ◌∷◌, Some, Ok, sym, refl, ap, inl, inr, arith, eq-eqb}
+use Rattle.std.proofs.Common.{◌≡◌, ℕ, ◌+◌, ◌<◌, ◌≤◌, Bool, true, false, leb, ◌⊎◌, List, ◌∷◌, Some, Ok, sym, refl, ap, inl, inr, arith}
 use Rattle.std.proofs.lemmas.Bool.Decides.{leb_tells}
 use Rattle.std.proofs.lemmas.Bool.{ne_eqb}
 use Rattle.coins.specs.declared.coin.Coin.{Coin}
@@ -28,20 +28,6 @@ coin_is y h b c value lock height coinbase = go (leb_tells y.value 2100000000000
 module _ (room h i : ℕ) (id : List ℕ) (b : Bool) (y : OutputValue) (ps qs : List Piece) (m : Coins) (hands : ps ≡ makes y ∷ qs) where
   pub output_worth : worth (outputs_in ps) ≡ y.value + worth (outputs_in qs)
   output_worth = rw hands refl
-
-  -- it burns
-  module _ (kind : y.lock.kind ≡ 0) where
-    e : burns y ≡ true
-    e = eq-eqb _ 0 kind
-
-    pub burned_made : coins_made (outputs_in ps) ≡ coins_made (outputs_in qs)
-    burned_made = rw (hands, e) refl
-
-    pub burned_value : value_burned (outputs_in ps) ≡ y.value + value_burned (outputs_in qs)
-    burned_value = rw (hands, e) refl
-
-    pub burned_leaves : make_all room h id b i (outputs_in ps) m ≡ make_all room h id b (i + 1) (outputs_in qs) m
-    burned_leaves = rw (hands, e) refl
 
   -- it makes a coin
   module _ (kind : y.lock.kind ≡ 0 → ⊥) where

@@ -52,7 +52,7 @@ fn spend<V: CoinsView, C: SpendCondition>(
 pub fn spend_inputs<V: CoinsView, C: SpendCondition>(
     state: &mut Chainstate<V>,
     site: &Site<'_, C>,
-    mut inputs: Items<'_>,
+    inputs: Items<'_>,
 ) -> Result<u64, TransactionFault>
     requires { length (entries state.old.undo) + length (inputs_in (items_of inputs)) ≤ 512 }
     ensures value { Answers (spent C.SpendCondition.opens site.now (inputs_in (items_of inputs.entry)) (V.CoinsView.coins state.old.view)) result (V.CoinsView.coins state.new.view) }
@@ -61,34 +61,36 @@ pub fn spend_inputs<V: CoinsView, C: SpendCondition>(
     ensures few { IfOk result (λ paid. paid ≤ 64 * 2100000000000000) }
 {
     let mut paid = 0;
-    let mut item = 0;
-    while let Some(
-        Item::Input {
+    for (item, input) in inputs.enumerate() {
+        let Item::Input {
             id,
             index,
             witness,
             ..
-        },
-    ) = inputs.next()
-    {
+        } = input
+        else {
+            break;
+        };
         let at = Outpoint { id: *id, index };
         let coin = spend(state, site, at, witness).map_err(|fault| TransactionFault::Item {
             item,
             fault,
         })?;
         paid += coin.value;
-        item += 1;
     }
     Ok(paid)
 }
 
 // What a transaction's outputs are worth.
-pub fn outputs_worth(mut outputs: Items<'_>) -> u64
+pub fn outputs_worth(outputs: Items<'_>) -> u64
     requires { worthOf (outputs_in (items_of outputs)) ≤ 2100000000000000 }
     ensures { result ≡ worthOf (outputs_in (items_of outputs.entry)) }
 {
     let mut sum = 0;
-    while let Some(Item::Output { value, .. }) = outputs.next() {
+    for output in outputs {
+        let Item::Output { value, .. } = output else {
+            break;
+        };
         sum += value;
     }
     sum
@@ -147,20 +149,23 @@ pub fn make_outputs<V: CoinsView, C: SpendCondition>(
     ensures value { Answers (made (V.CoinsView.most state.old.view) site.now tx.now.id.now coinbase (outputs_in (items_of tx.now.outputs)) (V.CoinsView.coins state.old.view)) result (V.CoinsView.coins state.new.view) }
     ensures taken { TakenBack V.CoinsView state.old state.new }
     ensures long { OnOk result (length (entries state.new.undo) ≡ length (entries state.old.undo) + coins_made (outputs_in (items_of tx.now.outputs))) }
-    ensures few { IfOk result (λ a. (a.made ≤ 64) × (a.burned ≤ 2100000000000000)) }
+    ensures few { IfOk result (λ a. (a.made ≤ 64) × (a.spent ≡ 0) × (a.fees ≡ 0) × (a.burned ≤ 2100000000000000)) }
 {
-    let mut outputs = tx.outputs;
     let mut sums = Sums::default();
-    let mut index = 0;
-    while let Some(Item::Output { value, lock, .. }) = outputs.next() {
+    for (index, output) in tx.outputs.enumerate() {
+        let Item::Output { value, lock, .. } = output else {
+            break;
+        };
         if lock.kind == 0 {
             sums.burned += value;
         } else {
-            let at = Outpoint { id: *tx.id, index };
+            let at = Outpoint {
+                id: *tx.id,
+                index: index as u32,
+            };
             make(state, at, made_coin(value, lock, site.height, coinbase))?;
             sums.made += 1;
         }
-        index += 1;
     }
     Ok(sums)
 }
