@@ -38,7 +38,7 @@ module _ (s : Setting) (h t : ℕ) (x : TransactionValue) (ts us : List Transact
   others_refused f e = rw (is, e) refl
 
 -- outputs made, with what they come to
-pub made_ok : (r : Result Coins TransactionFault) (ys : List OutputValue) (n : Coins) (b : Sums) → then {Y = Coins × Sums} r (λ k. Ok (k, outputs_sums ys)) ≡ Ok (n, b) → (r ≡ Ok n) × (b ≡ outputs_sums ys)
+made_ok : (r : Result Coins TransactionFault) (ys : List OutputValue) (n : Coins) (b : Sums) → then {Y = Coins × Sums} r (λ k. Ok (k, outputs_sums ys)) ≡ Ok (n, b) → (r ≡ Ok n) × (b ≡ outputs_sums ys)
 made_ok (Ok k) ys n b e =
     let z : (k, outputs_sums ys) ≡ (n, b) = ok_same {F = TransactionFault} _ _ e in (ap (λ p. Ok p.0) z, ap (λ p. p.1) (sym z))
 made_ok (Err f) ys n b e = no_err f (n, b) e

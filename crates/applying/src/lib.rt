@@ -50,7 +50,7 @@ fn apply_spending<V: CoinsView, C: SpendCondition>(
 fn apply_others<V: CoinsView, C: SpendCondition>(
     state: &mut Chainstate<V>,
     site: &Site<'_, C>,
-    mut others: Transactions<'_>,
+    others: Transactions<'_>,
 ) -> Result<Sums, BlockFault>
     requires money { All Moneyed (transactions_of others) }
     requires room { length (entries state.old.undo) + others_needs (transactions_of others) ≤ 512 }
@@ -60,14 +60,12 @@ fn apply_others<V: CoinsView, C: SpendCondition>(
     ensures few { IfOk result (λ a. (a.made ≤ 4096) × (a.spent ≤ 4096) × (a.fees ≤ 4096 * 2100000000000000) × (a.burned ≤ 64 * 2100000000000000)) }
 {
     let mut sums = Sums::default();
-    let mut transaction = 1;
-    while let Some(tx) = others.next() {
+    for (before, tx) in others.enumerate() {
         let one = apply_spending(state, site, &tx).map_err(|fault| BlockFault::Transaction {
-            transaction,
+            transaction: before + 1,
             fault,
         })?;
         sums = sums + one;
-        transaction += 1;
     }
     Ok(sums)
 }

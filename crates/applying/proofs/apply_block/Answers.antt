@@ -9,7 +9,7 @@ use Rattle.applying.proofs.apply_block.Goals as goal
 
 pub outputs_worth-claimed-requires : goal.outputs_worth-claimed-requires
 outputs_worth-claimed-requires g c =
-    let h = c.in-Some.ensures.hands in
+    let h = c.in-Some.ensures.steps in
     let us = transactions_of c.next.new.self in
     let o = opened c.in-Some.first h.0 (block_of c.args.block.now).transactions us h.1 (sym c.transactions-others.ensures.all ∙ h.2) in
     let moneyed : All Moneyed (value_of c.in-Some.first ∷ us) = rw o.is at c.requires.money in
@@ -17,7 +17,7 @@ outputs_worth-claimed-requires g c =
 
 pub make_outputs-requires : goal.make_outputs-requires
 make_outputs-requires g c =
-    let h = c.in-Some.ensures.hands in
+    let h = c.in-Some.ensures.steps in
     let us = transactions_of c.next.new.self in
     let o = opened c.in-Some.first h.0 (block_of c.args.block.now).transactions us h.1 (sym c.transactions-others.ensures.all ∙ h.2) in
     let moneyed : All Moneyed (value_of c.in-Some.first ∷ us) = rw o.is at c.requires.money in
@@ -29,7 +29,7 @@ returns-in_err-coinbase-clause-value g c =
     let a = c.args in
     let m = v.coins a.state.now.view in
     let x = value_of c.in-Some.first in
-    let h = c.in-Some.ensures.hands in
+    let h = c.in-Some.ensures.steps in
     let us = transactions_of c.next.new.self in
     let bs = (block_of a.block.now).transactions in
     let o = opened c.in-Some.first h.0 bs us h.1 (sym c.transactions-others.ensures.all ∙ h.2) in
@@ -38,7 +38,7 @@ returns-in_err-coinbase-clause-value g c =
 
 pub apply_others-requires : goal.apply_others-requires
 apply_others-requires g c =
-    let h = c.in-Some.ensures.hands in
+    let h = c.in-Some.ensures.steps in
     let us = transactions_of c.next.new.self in
     let o = opened c.in-Some.first h.0 (block_of c.args.block.now).transactions us h.1 (sym c.transactions-others.ensures.all ∙ h.2) in
     let moneyed : All Moneyed (value_of c.in-Some.first ∷ us) = rw o.is at c.requires.money in
@@ -52,7 +52,7 @@ returns-in_err-apply_others-clause-value g c =
     let a = c.args in
     let m = v.coins a.state.now.view in
     let x = value_of c.in-Some.first in
-    let h = c.in-Some.ensures.hands in
+    let h = c.in-Some.ensures.steps in
     let us = transactions_of c.next.new.self in
     let bs = (block_of a.block.now).transactions in
     let o = opened c.in-Some.first h.0 bs us h.1 (sym c.transactions-others.ensures.all ∙ h.2) in
@@ -67,22 +67,20 @@ returns-in_err-apply_others-clause-value g c =
 
 pub add-sums-requires : goal.add-sums-requires
 add-sums-requires g c =
-    let is : c.make_outputs.result ≡ Ok c.in_ok-coinbase.coinbase = search rules in
-    let e : made (g.V.CoinsView.most c.args.state.now.view) c.args.site.now (value_of c.in-Some.first).id true (value_of c.in-Some.first).outputs (g.V.CoinsView.coins c.args.state.now.view) ≡ Ok (g.V.CoinsView.coins c.make_outputs.new.state.view, c.in_ok-coinbase.coinbase) = rw is at c.make_outputs.ensures.value in
-    let few : (c.in_ok-coinbase.coinbase.made ≤ 64) × (c.in_ok-coinbase.coinbase.burned ≤ 2100000000000000) = rw is at c.make_outputs.ensures.few in
-    let sums = (made_ok _ (value_of c.in-Some.first).outputs _ _ e).1 in
+    let one = c.in_ok-coinbase.coinbase in
+    let is : c.make_outputs.result ≡ Ok one = search rules in
+    let few : (one.made ≤ 64) × (one.spent ≡ 0) × (one.fees ≡ 0) × (one.burned ≤ 2100000000000000) = rw is at c.make_outputs.ensures.few in
     let rest = c.in_ok-apply_others.ensures.few in
-    (omega (arith, few.0, rest.0), omega (arith, ap (λ y. y.spent) sums, rest.1), omega (arith, ap (λ y. y.fees) sums, rest.2), omega (arith, few.1, rest.3))
+    (omega (arith, few.0, rest.0), omega (arith, few.1, rest.1), omega (arith, few.2, rest.2), omega (arith, few.3, rest.3))
 
 pub overflow_add-due : goal.overflow_add-due
 overflow_add-due g c =
     let small = subsidy_small c.args.site.now.halving c.args.site.now.height in
-    let is : c.make_outputs.result ≡ Ok c.in_ok-coinbase.coinbase = search rules in
-    let e : made (g.V.CoinsView.most c.args.state.now.view) c.args.site.now (value_of c.in-Some.first).id true (value_of c.in-Some.first).outputs (g.V.CoinsView.coins c.args.state.now.view) ≡ Ok (g.V.CoinsView.coins c.make_outputs.new.state.view, c.in_ok-coinbase.coinbase) = rw is at c.make_outputs.ensures.value in
-    let few : (c.in_ok-coinbase.coinbase.made ≤ 64) × (c.in_ok-coinbase.coinbase.burned ≤ 2100000000000000) = rw is at c.make_outputs.ensures.few in
-    let sums = (made_ok _ (value_of c.in-Some.first).outputs _ _ e).1 in
+    let one = c.in_ok-coinbase.coinbase in
+    let is : c.make_outputs.result ≡ Ok one = search rules in
+    let few : (one.made ≤ 64) × (one.spent ≡ 0) × (one.fees ≡ 0) × (one.burned ≤ 2100000000000000) = rw is at c.make_outputs.ensures.few in
     let rest = c.in_ok-apply_others.ensures.few in
-    omega (arith, small, c.subsidy.ensures, rest.2, ap (λ y. y.fees) sums, ap (λ y. y.fees) c.add-sums.ensures)
+    omega (arith, small, c.subsidy.ensures, rest.2, few.2, ap (λ y. y.fees) c.add-sums.ensures)
 
 pub returns-then-claimed-due-clause-value : goal.returns-then-claimed-due-clause-value
 returns-then-claimed-due-clause-value g c =
@@ -90,7 +88,7 @@ returns-then-claimed-due-clause-value g c =
     let a = c.args in
     let m = v.coins a.state.now.view in
     let x = value_of c.in-Some.first in
-    let h = c.in-Some.ensures.hands in
+    let h = c.in-Some.ensures.steps in
     let us = transactions_of c.next.new.self in
     let bs = (block_of a.block.now).transactions in
     let o = opened c.in-Some.first h.0 bs us h.1 (sym c.transactions-others.ensures.all ∙ h.2) in
@@ -105,12 +103,11 @@ returns-then-claimed-due-clause-value g c =
 pub overflow_add-result : goal.overflow_add-result
 overflow_add-result g c =
     let small = subsidy_small c.args.site.now.halving c.args.site.now.height in
-    let is : c.make_outputs.result ≡ Ok c.in_ok-coinbase.coinbase = search rules in
-    let e : made (g.V.CoinsView.most c.args.state.now.view) c.args.site.now (value_of c.in-Some.first).id true (value_of c.in-Some.first).outputs (g.V.CoinsView.coins c.args.state.now.view) ≡ Ok (g.V.CoinsView.coins c.make_outputs.new.state.view, c.in_ok-coinbase.coinbase) = rw is at c.make_outputs.ensures.value in
-    let few : (c.in_ok-coinbase.coinbase.made ≤ 64) × (c.in_ok-coinbase.coinbase.burned ≤ 2100000000000000) = rw is at c.make_outputs.ensures.few in
-    let sums = (made_ok _ (value_of c.in-Some.first).outputs _ _ e).1 in
+    let one = c.in_ok-coinbase.coinbase in
+    let is : c.make_outputs.result ≡ Ok one = search rules in
+    let few : (one.made ≤ 64) × (one.spent ≡ 0) × (one.fees ≡ 0) × (one.burned ≤ 2100000000000000) = rw is at c.make_outputs.ensures.few in
     let rest = c.in_ok-apply_others.ensures.few in
-    omega (arith, small, c.subsidy.ensures, rest.2, rest.3, few.1, ap (λ y. y.fees) sums, ap (λ y. y.fees) c.add-sums.ensures, ap (λ y. y.burned) c.add-sums.ensures)
+    omega (arith, small, c.subsidy.ensures, rest.2, rest.3, few.2, few.3, ap (λ y. y.fees) c.add-sums.ensures, ap (λ y. y.burned) c.add-sums.ensures)
 
 pub returns-clause-value : goal.returns-clause-value
 returns-clause-value g c =
@@ -118,7 +115,7 @@ returns-clause-value g c =
     let a = c.args in
     let m = v.coins a.state.now.view in
     let x = value_of c.in-Some.first in
-    let h = c.in-Some.ensures.hands in
+    let h = c.in-Some.ensures.steps in
     let us = transactions_of c.next.new.self in
     let bs = (block_of a.block.now).transactions in
     let o = opened c.in-Some.first h.0 bs us h.1 (sym c.transactions-others.ensures.all ∙ h.2) in
@@ -132,7 +129,7 @@ returns-clause-value g c =
 
 pub returns-clause-long : goal.returns-clause-long
 returns-clause-long g c =
-    let h = c.in-Some.ensures.hands in
+    let h = c.in-Some.ensures.steps in
     let us = transactions_of c.next.new.self in
     let o = opened c.in-Some.first h.0 (block_of c.args.block.now).transactions us h.1 (sym c.transactions-others.ensures.all ∙ h.2) in
     let is : c.make_outputs.result ≡ Ok c.in_ok-coinbase.coinbase = search rules in

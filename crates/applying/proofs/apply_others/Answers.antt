@@ -1,4 +1,4 @@
-use Rattle.std.proofs.Common.{◌≡◌, ◌+◌, ◌*◌, ◌≤◌, ◌∷◌, length, Ok, Err, refl, ap, ◌∙◌, arith, rules}
+use Rattle.std.proofs.Common.{◌≡◌, ◌+◌, ◌*◌, ◌≤◌, ◌∷◌, length, Ok, Err, refl, inl, ap, ◌∙◌, arith, rules}
 use Rattle.undo.specs.Entries.{entries}
 use Rattle.blockform.specs.Value.{All}
 use Rattle.blockform.specs.Readers.{transactions_of, transactions_good}
@@ -10,40 +10,34 @@ use Rattle.unwinding.proofs.Undone.{taken_twice}
 use Rattle.applying.proofs.Applying.{opened, others_applied, others_refused}
 use Rattle.applying.proofs.apply_others.Goals as goal
 
-pub loop-tx-init : goal.loop-tx-init
-loop-tx-init g c =
-    let few = transactions_few c.args.others (transactions_good c.args.others) in
-    let z : c.default-sums.result ≡ none = search rules in
-    rw z (record {
-      taken = record { fixed = refl; back = refl };
-      count = omega (arith, few);
-      money = c.requires.money;
-      long = refl;
-      made = omega arith;
-      spent = omega arith;
-      fees = omega arith;
-      burned = omega arith;
-      value = refl;
-    })
+pub loop-before-init-derived : goal.loop-before-init-derived
+loop-before-init-derived g c =
+    let all = c.into_iter-before-iterator.result in
+    let few = transactions_few all.iter (transactions_good _) in
+    let none = ap (λ x. x.count) c.into_iter-before-iterator.ensures.into_iter_gives in
+    ((tt, tt, inl (omega (arith, c.enumerate-before-items.ensures.count))), tt)
+
+pub loop-before-init : goal.loop-before-init
+loop-before-init g c = let few = transactions_few c.args.others (transactions_good _) in search rules
 
 pub apply_spending-requires : goal.apply_spending-requires
 apply_spending-requires g c =
-    let l = c.loop-tx in
-    let h = c.in-Some.ensures.hands in
-    let o = opened c.in-Some.tx h.0 (transactions_of l.others) (transactions_of c.next.new.self) h.1 h.2 in
-    let moneyed : All Moneyed (value_of c.in-Some.tx ∷ transactions_of c.next.new.self) = rw o.is at l.invariant.money in
+    let l = c.loop-before in
+    let h = c.in-Some.ensures.steps.0 in
+    let o = opened c.in-Some.tx h.0 (transactions_of l.before-iterator.iter) (transactions_of c.next.new.self.iter) h.1 h.2 in
+    let moneyed : All Moneyed (value_of c.in-Some.tx ∷ transactions_of c.next.new.self.iter) = rw o.is at l.invariant.money in
     record { whole = o.whole; money = moneyed.0; room = omega (arith, ap others_needs o.is, l.invariant.long, c.requires.room) }
 
-pub loop-tx-preserved : goal.loop-tx-preserved
-loop-tx-preserved g c =
+pub loop-before-preserved : goal.loop-before-preserved
+loop-before-preserved g c =
     let v = g.V.CoinsView in
     let a = c.args in
     let s = a.state.now in
-    let l = c.loop-tx in
+    let l = c.loop-before in
     let x = value_of c.in-Some.tx in
-    let us = transactions_of c.next.new.self in
-    let h = c.in-Some.ensures.hands in
-    let o = opened c.in-Some.tx h.0 (transactions_of l.others) us h.1 h.2 in
+    let us = transactions_of c.next.new.self.iter in
+    let h = c.in-Some.ensures.steps.0 in
+    let o = opened c.in-Some.tx h.0 (transactions_of l.before-iterator.iter) us h.1 h.2 in
     let e = c.apply_spending.ensures in
     let one = c.in_ok-one.one in
     let is : c.apply_spending.result ≡ Ok one = search rules in
@@ -52,7 +46,7 @@ loop-tx-preserved g c =
     let moneyed : All Moneyed (x ∷ us) = rw o.is at l.invariant.money in
     let k = setting (v.most s.view) g.C.SpendCondition.opens a.site.now in
     let value : spending k a.site.now.height x (v.coins l.state.view) ≡ Ok (v.coins c.apply_spending.new.state.view, one) = rw (is, l.invariant.taken.fixed) at e.value in
-    rw c.add-sums.ensures (record {
+    rw (c.add-sums.ensures, c.in-Some.ensures.steps.2) (record {
       taken = taken_twice v s l.state c.apply_spending.new.state l.invariant.taken e.taken;
       count = omega (arith, l.invariant.count, ap length o.is);
       money = moneyed.1;
@@ -61,18 +55,18 @@ loop-tx-preserved g c =
       spent = omega (arith, l.invariant.spent, few.1);
       fees = omega (arith, l.invariant.fees, few.2);
       burned = omega (arith, l.invariant.burned, few.3);
-      value = l.invariant.value ∙ others_applied k a.site.now.height l.transaction x (transactions_of l.others) us (v.coins l.state.view) l.sums o.is (v.coins c.apply_spending.new.state.view) one (added l.sums one) value refl;
+      value = l.invariant.value ∙ others_applied k a.site.now.height (l.before-iterator.count + 1) x (transactions_of l.before-iterator.iter) us (v.coins l.state.view) l.sums o.is (v.coins c.apply_spending.new.state.view) one (added l.sums one) value refl;
     })
 
 pub returns-in_err-one-clause-value : goal.returns-in_err-one-clause-value
 returns-in_err-one-clause-value g c =
     let v = g.V.CoinsView in
     let a = c.args in
-    let l = c.loop-tx in
+    let l = c.loop-before in
     let x = value_of c.in-Some.tx in
-    let h = c.in-Some.ensures.hands in
-    let o = opened c.in-Some.tx h.0 (transactions_of l.others) (transactions_of c.next.new.self) h.1 h.2 in
+    let h = c.in-Some.ensures.steps.0 in
+    let o = opened c.in-Some.tx h.0 (transactions_of l.before-iterator.iter) (transactions_of c.next.new.self.iter) h.1 h.2 in
     let k = setting (v.most a.state.now.view) g.C.SpendCondition.opens a.site.now in
     let value : Answers (spending k a.site.now.height x (v.coins l.state.view)) c.apply_spending.result (v.coins c.apply_spending.new.state.view) = rw l.invariant.taken.fixed at c.apply_spending.ensures.value in
-    let refused = λ (f : TransactionFault) (e : spending k a.site.now.height x (v.coins l.state.view) ≡ Err f). l.invariant.value ∙ others_refused k a.site.now.height l.transaction x (transactions_of l.others) (transactions_of c.next.new.self) (v.coins l.state.view) l.sums o.is f e in
+    let refused = λ (f : TransactionFault) (e : spending k a.site.now.height x (v.coins l.state.view) ≡ Err f). l.invariant.value ∙ others_refused k a.site.now.height (l.before-iterator.count + 1) x (transactions_of l.before-iterator.iter) (transactions_of c.next.new.self.iter) (v.coins l.state.view) l.sums o.is f e in
     search rules

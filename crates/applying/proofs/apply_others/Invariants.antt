@@ -8,24 +8,22 @@ use Rattle.unwinding.specs.TakenBack.{TakenBack}
 use Rattle.applying.proofs.apply_others.Given as goal
 
 -- what is left answers what the whole answers, and the way back leads to where it led
-abbrev pub invariant-loop-tx : goal.invariant-loop-tx
-invariant-loop-tx g l =
+abbrev pub invariant-loop-before : goal.invariant-loop-before
+invariant-loop-before g l =
     let v = g.V.CoinsView in
     let s = l.initial.state in
     let k = setting (v.most s.view) g.C.SpendCondition.opens l.site in
     let h = l.site.height in
-    let left = transactions_of l.others in
+    let t = l.before-iterator.count in
+    let left = transactions_of l.before-iterator.iter in
     record {
       taken : TakenBack v s l.state;
-      count : l.transaction + length left ≤ 65;
+      count : t + length left ≤ 64;
       money : All Moneyed left;
-      long : length (entries l.state.undo) + others_needs left ≡ length (entries s.undo) + others_needs (transactions_of l.initial.others);
-      made : l.sums.made + 64 ≤ l.transaction * 64;
-      spent : l.sums.spent + 64 ≤ l.transaction * 64;
-      fees : l.sums.fees + 134400000000000000 ≤ l.transaction * 134400000000000000;
-      burned : l.sums.burned + 2100000000000000 ≤ l.transaction * 2100000000000000;
-      value : spending_all k h 1 (transactions_of l.initial.others) (v.coins s.view) none ≡ spending_all k h l.transaction left (v.coins l.state.view) l.sums;
+      long : length (entries l.state.undo) + others_needs left ≡ length (entries s.undo) + others_needs (transactions_of l.fn.others);
+      made : l.sums.made ≤ t * 64;
+      spent : l.sums.spent ≤ t * 64;
+      fees : l.sums.fees ≤ t * 134400000000000000;
+      burned : l.sums.burned ≤ t * 2100000000000000;
+      value : spending_all k h 1 (transactions_of l.fn.others) (v.coins s.view) none ≡ spending_all k h (t + 1) left (v.coins l.state.view) l.sums;
     }
-
-abbrev pub decreases-loop-tx : goal.decreases-loop-tx
-decreases-loop-tx g l = length (transactions_of l.others)
