@@ -35,13 +35,11 @@ fn apply_spending<V: CoinsView, C: SpendCondition>(
 {
     let paid = spend_inputs(state, site, tx.inputs)?;
     let worth = outputs_worth(tx.outputs);
-    if paid < worth {
-        return Err(TransactionFault::Under);
-    }
+    let fees = paid.checked_sub(worth).ok_or(TransactionFault::Under)?;
     let made = make_outputs(state, site, tx, false)?;
     Ok(Sums {
         spent: tx.inputs.len() as u64,
-        fees: paid - worth,
+        fees,
         ..made
     })
 }
@@ -95,11 +93,9 @@ pub fn apply_block<V: CoinsView, C: SpendCondition>(
     })?;
     let sums = coinbase + apply_others(state, site, others)?;
     let due = subsidy(site.halving, site.height) + sums.fees;
-    if claimed > due {
-        return Err(BlockFault::Claim);
-    }
+    let unclaimed = due.checked_sub(claimed).ok_or(BlockFault::Claim)?;
     Ok(Sums {
-        burned: due - claimed + sums.burned,
+        burned: unclaimed + sums.burned,
         ..sums
     })
 }

@@ -1,10 +1,10 @@
-use Rattle.std.proofs.Common.{◌≡◌, ◌+◌, ◌≤◌, ◌∷◌, true, length, Ok, Err, refl, sym, ap, ◌∙◌, arith, rules}
+use Rattle.std.proofs.Common.{◌≡◌, ◌+◌, ◌-◌, ◌<◌, ◌≤◌, ◌∷◌, true, length, Ok, Err, refl, sym, ap, ◌∙◌, arith, rules}
 use Rattle.undo.specs.Entries.{entries}
 use Rattle.blockform.specs.Value.{All}
 use Rattle.blockform.specs.Readers.{transactions_of, block_of}
 use Rattle.connecting.specs.Applied.{setting, made, value_of, Moneyed}
 use Rattle.connecting.specs.Rules.{coins_made, none, spending_all, transactions_needs}
-use Rattle.applying.proofs.Applying.{opened, made_ok, effect_unmade, effect_unspent, effect_claim, effect_done, subsidy_small}
+use Rattle.applying.proofs.Applying.{opened, effect_unmade, effect_unspent, effect_claim, effect_done, subsidy_small}
 use Rattle.applying.proofs.apply_block.Goals as goal
 
 pub outputs_worth-claimed-requires : goal.outputs_worth-claimed-requires
@@ -82,8 +82,8 @@ overflow_add-due g c =
     let rest = c.in_ok-apply_others.ensures.few in
     omega (arith, small, c.subsidy.ensures, rest.2, few.2, ap (λ y. y.fees) c.add-sums.ensures)
 
-pub returns-then-claimed-due-clause-value : goal.returns-then-claimed-due-clause-value
-returns-then-claimed-due-clause-value g c =
+pub returns-in_err-unclaimed-clause-value : goal.returns-in_err-unclaimed-clause-value
+returns-in_err-unclaimed-clause-value g c =
     let v = g.V.CoinsView in
     let a = c.args in
     let m = v.coins a.state.now.view in
@@ -98,16 +98,22 @@ returns-then-claimed-due-clause-value g c =
     let e : made (v.most a.state.now.view) a.site.now x.id true x.outputs m ≡ Ok (n, coinbase) = rw is at c.make_outputs.ensures.value in
     let k = setting (v.most a.state.now.view) g.C.SpendCondition.opens a.site.now in
     let rest : spending_all k a.site.now.height 1 us n none ≡ Ok (v.coins c.apply_others.new.state.view, c.in_ok-apply_others.field-0) = rw c.make_outputs.ensures.taken.fixed at c.in_ok-apply_others.ensures.value in
-    effect_claim (v.most a.state.now.view) g.C.SpendCondition.opens a.site.now x bs us m o.is n coinbase e (v.coins c.apply_others.new.state.view) c.in_ok-apply_others.field-0 c.add-sums.result rest c.add-sums.ensures (omega (arith, c.if-claimed-due.true, c.subsidy.ensures, c.outputs_worth-claimed.ensures))
+    let due = c.subsidy.result + c.add-sums.result.fees in
+    let less : due < c.outputs_worth-claimed.result = search rules in
+    let refused = effect_claim (v.most a.state.now.view) g.C.SpendCondition.opens a.site.now x bs us m o.is n coinbase e (v.coins c.apply_others.new.state.view) c.in_ok-apply_others.field-0 c.add-sums.result rest c.add-sums.ensures (omega (arith, less, c.subsidy.ensures, c.outputs_worth-claimed.ensures)) in
+    search rules
 
 pub overflow_add-result : goal.overflow_add-result
 overflow_add-result g c =
+    let due = c.subsidy.result + c.add-sums.result.fees in
+    let claimed = c.outputs_worth-claimed.result in
+    let left : (claimed ≤ due) × (c.in_ok-unclaimed.unclaimed ≡ due - claimed) = search rules in
     let small = subsidy_small c.args.site.now.halving c.args.site.now.height in
     let one = c.in_ok-coinbase.coinbase in
     let is : c.make_outputs.result ≡ Ok one = search rules in
     let few : (one.made ≤ 64) × (one.spent ≡ 0) × (one.fees ≡ 0) × (one.burned ≤ 2100000000000000) = rw is at c.make_outputs.ensures.few in
     let rest = c.in_ok-apply_others.ensures.few in
-    omega (arith, small, c.subsidy.ensures, rest.2, rest.3, few.2, few.3, ap (λ y. y.fees) c.add-sums.ensures, ap (λ y. y.burned) c.add-sums.ensures)
+    omega (arith, left.1, small, c.subsidy.ensures, rest.2, rest.3, few.2, few.3, ap (λ y. y.fees) c.add-sums.ensures, ap (λ y. y.burned) c.add-sums.ensures)
 
 pub returns-clause-value : goal.returns-clause-value
 returns-clause-value g c =
@@ -125,7 +131,10 @@ returns-clause-value g c =
     let e : made (v.most a.state.now.view) a.site.now x.id true x.outputs m ≡ Ok (n, coinbase) = rw is at c.make_outputs.ensures.value in
     let k = setting (v.most a.state.now.view) g.C.SpendCondition.opens a.site.now in
     let rest : spending_all k a.site.now.height 1 us n none ≡ Ok (v.coins c.apply_others.new.state.view, c.in_ok-apply_others.field-0) = rw c.make_outputs.ensures.taken.fixed at c.in_ok-apply_others.ensures.value in
-    effect_done (v.most a.state.now.view) g.C.SpendCondition.opens a.site.now x bs us m o.is n coinbase e (v.coins c.apply_others.new.state.view) c.in_ok-apply_others.field-0 c.add-sums.result rest c.add-sums.ensures _ (omega (arith, c.if-claimed-due.false, c.subsidy.ensures, c.outputs_worth-claimed.ensures)) refl refl refl (omega (arith, c.subsidy.ensures, c.outputs_worth-claimed.ensures))
+    let due = c.subsidy.result + c.add-sums.result.fees in
+    let claimed = c.outputs_worth-claimed.result in
+    let left : (claimed ≤ due) × (c.in_ok-unclaimed.unclaimed ≡ due - claimed) = search rules in
+    effect_done (v.most a.state.now.view) g.C.SpendCondition.opens a.site.now x bs us m o.is n coinbase e (v.coins c.apply_others.new.state.view) c.in_ok-apply_others.field-0 c.add-sums.result rest c.add-sums.ensures _ (omega (arith, left.0, c.subsidy.ensures, c.outputs_worth-claimed.ensures)) refl refl refl (omega (arith, left.1, c.subsidy.ensures, c.outputs_worth-claimed.ensures))
 
 pub returns-clause-long : goal.returns-clause-long
 returns-clause-long g c =

@@ -4,7 +4,7 @@ use Rattle.blockform.specs.Value.{All}
 use Rattle.blockform.specs.Readers.{transactions_of, transactions_good}
 use Rattle.blockform.proofs.Few.{transactions_few}
 use Rattle.connecting.specs.Applied.{Answers, setting, value_of, Moneyed, spending_needs}
-use Rattle.connecting.specs.Rules.{added, none, others_needs, spending}
+use Rattle.connecting.specs.Rules.{added, others_needs, spending}
 use Rattle.connecting.specs.declared.fault.TransactionFault.{TransactionFault}
 use Rattle.unwinding.proofs.Undone.{taken_twice}
 use Rattle.applying.proofs.Applying.{opened, others_applied, others_refused}
