@@ -3,7 +3,7 @@ ghost use Rattle.std.specs.Prelude.{◌≡◌, ◌≤◌, length};
 ghost use Rattle.std.specs.Iterator.{item_count};
 ghost use Rattle.blockform.specs.Readers.{transactions_of, HandsTransaction};
 
-use crate::reader::fields::{id_at, past_inputs};
+use crate::reader::fields::{array_at, past_inputs};
 use crate::reader::{Items, Transaction, Transactions};
 
 impl<'a> Transactions<'a> {
@@ -30,7 +30,7 @@ impl<'a> Iterator for Transactions<'a> {
         }
         let block = self.block;
         let offset = self.place;
-        let id = id_at(block, offset);
+        let id = array_at(block, offset);
         let count = offset + 32;
         let inputs = Items {
             block,
