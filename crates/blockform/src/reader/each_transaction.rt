@@ -4,7 +4,7 @@ ghost use Rattle.std.specs.Iterator.{item_count};
 ghost use Rattle.blockform.specs.Readers.{transactions_of, HandsTransaction};
 
 use crate::reader::fields::{array_at, past_inputs};
-use crate::reader::{Items, Transaction, Transactions};
+use crate::reader::{Items, Kind, Transaction, Transactions};
 
 impl<'a> Transactions<'a> {
     // How many are still to come.
@@ -36,14 +36,14 @@ impl<'a> Iterator for Transactions<'a> {
             block,
             place: count + 1,
             left: block[count] as usize,
-            inputs: true,
+            kind: Kind::Input,
         };
         let end = past_inputs(block, inputs.place, inputs.left);
         let outputs = Items {
             block,
             place: end + 1,
             left: block[end] as usize,
-            inputs: false,
+            kind: Kind::Output,
         };
         self.place = outputs.place + 17 * outputs.left;
         self.left -= 1;

@@ -1,11 +1,12 @@
 // The fields of well-formed bytes, read at a place.
 ghost use Rattle.std.specs.Prelude.{◌≡◌, ◌+◌, ◌≤◌, true, length, take, drop, is_ok};
-ghost use Rattle.blockbytes.specs.Form.{times, input as input_form, item as item_form};
+ghost use Rattle.blockbytes.specs.Form.{times, input as input_form};
 ghost use Rattle.blockbytes.specs.Value.{spends, makes, encode_piece, PieceWithin};
-ghost use Rattle.blockbytes.specs.Places.{input_at, input_end, output_at, item_at, item_end, end_of};
+ghost use Rattle.blockbytes.specs.Places.{input_at, input_end, output_at, end_of};
+ghost use Rattle.blockform.specs.Kinds.{item as item_form, item_at, item_end};
 ghost use Rattle.blockform.specs.Readers.{piece_of, offset_of};
 
-use crate::reader::Item;
+use crate::reader::{Item, Kind};
 use coins::coin::Lock;
 
 // The `N` bytes at `at`.
@@ -61,15 +62,18 @@ fn output(b: &[u8], at: usize) -> (Item<'_>, usize)
 }
 
 // The input or output at `at`, and where it ends.
-pub fn item(b: &[u8], at: usize, inputs: bool) -> (Item<'_>, usize)
-    requires { is_ok (item_form inputs b.now at) ≡ true }
-    ensures piece { piece_of result.0 ≡ item_at inputs b.now at }
+pub fn item(b: &[u8], at: usize, kind: Kind) -> (Item<'_>, usize)
+    requires { is_ok (item_form kind b.now at) ≡ true }
+    ensures piece { piece_of result.0 ≡ item_at kind b.now at }
     ensures offset { offset_of result.0 ≡ at }
-    ensures end { result.1 ≡ item_end inputs b.now at }
+    ensures end { result.1 ≡ item_end kind b.now at }
     ensures within { PieceWithin (piece_of result.0) }
     ensures long { result.1 ≡ at + length (encode_piece (piece_of result.0)) }
 {
-    if inputs { input(b, at) } else { output(b, at) }
+    match kind {
+        Kind::Input => input(b, at),
+        Kind::Output => output(b, at),
+    }
 }
 
 // Where `n` inputs end that begin at `at`.
