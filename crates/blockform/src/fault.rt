@@ -3,7 +3,6 @@ ghost use Rattle.std.specs.Prelude.{◌≡◌};
 ghost use Rattle.blockform.specs.Faults.{short_refusal};
 
 pub use blockbytes::fault::FormFault;
-use blockbytes::fault::at_offset;
 pub use blockfile::fault::{FileFault, PeekFault};
 use refusal::{Reason, Refusal};
 
@@ -11,5 +10,5 @@ use refusal::{Reason, Refusal};
 pub fn short_buffer() -> Refusal
     ensures { result ≡ short_refusal }
 {
-    at_offset(Reason::Short, 0)
+    Reason::Short.into()
 }

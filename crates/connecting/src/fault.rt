@@ -130,7 +130,7 @@ impl BlockFault {
         ensures { result ≡ block_refusal self }
     {
         match self {
-            BlockFault::Form(f) => f.refusal(),
+            BlockFault::Form(f) => f.into(),
             BlockFault::Parent => placed(Reason::Parent, 0, 0),
             BlockFault::LastHeight => placed(Reason::LastHeight, 0, 0),
             BlockFault::LogFull => placed(Reason::LogFull, 0, 0),
