@@ -1,5 +1,5 @@
 -- How a block's bytes are read, from a place in the block on: the next place, or the first fault and where its field begins.
-use Rattle.std.specs.Prelude.{ℕ, zero, suc, ◌+◌, ◌-◌, cond, List, length, drop, Ok, Err, Result, nat_lt}
+use Rattle.std.specs.Prelude.{◌≡◌, ℕ, zero, suc, ◌+◌, ◌-◌, ◌^◌, ◌<◌, cond, List, length, drop, Ok, Err, Result, nat_lt}
 use Rattle.compact.specs.Compact.{read_size}
 use Rattle.compact.specs.declared.SizeFault.{SizeFault}
 use Rattle.compact.specs.declared.SizeFault.TheVariants as size
@@ -24,6 +24,14 @@ at_most limit l at (Err size.LongForm) = Err (LongForm at)
 -- a count of at most `limit`, and the place after it
 unfoldable pub count : ℕ → List ℕ → ℕ → Result (ℕ × ℕ) FormFault
 count limit b at = at_most limit (length b) at (read_size (drop at b))
+
+-- from a place to the next, or a fault
+abbrev pub Step : Type 0
+Step = ℕ → Result ℕ FormFault
+
+-- what a step of the code may answer is what `form` says
+abbrev pub Computes : (ℕ → Result ℕ FormFault → Type 0) → Step → Type 0
+Computes post form = (i : ℕ) (r : Result ℕ FormFault) → i < 2 ^ 64 → post i r → r ≡ form i
 
 -- n steps, one after another
 abbrev pub times : ℕ → (ℕ → Result ℕ FormFault) → ℕ → Result ℕ FormFault

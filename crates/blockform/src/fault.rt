@@ -4,11 +4,12 @@ ghost use Rattle.blockform.specs.Faults.{short_refusal};
 
 pub use blockbytes::fault::FormFault;
 pub use blockfile::fault::{FileFault, PeekFault};
-use refusal::{Reason, Refusal};
+use compact::ShortBuffer;
+use refusal::Refusal;
 
-// A buffer too short for a compact size, as a refusal.
+// A buffer too short for a compact size, as a refusal: for users of this library, who need not name the crate of compact sizes.
 pub fn short_buffer() -> Refusal
     ensures { result ≡ short_refusal }
 {
-    Reason::Short.into()
+    ShortBuffer.into()
 }
