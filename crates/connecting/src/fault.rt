@@ -114,7 +114,7 @@ impl From<BlockFault> for Refusal {
 
     fn from(f: BlockFault) -> Refusal {
         match f {
-            BlockFault::Form(f) => f.refusal(),
+            BlockFault::Form(f) => f.into(),
             BlockFault::Parent => Refusal::from(Reason::Parent),
             BlockFault::LastHeight => Refusal::from(Reason::LastHeight),
             BlockFault::LogFull => Refusal::from(Reason::LogFull),

@@ -53,7 +53,7 @@ fn short_buffers(rt: HostRuntime) -> Result<(), Fail> {
     for (n, needed) in &SIZES {
         writes_or_refuses(rt.alloc(), *n, *needed)?;
     }
-    check_said(ShortBuffer.refusal(), 9, Layer::Form, 0)?;
+    check_said(ShortBuffer.into(), 9, Layer::Form, 0)?;
     check_said(short_buffer(), 9, Layer::Form, 0)
 }
 
@@ -99,7 +99,7 @@ fn above_the_limit(rt: HostRuntime) -> Result<(), Fail> {
     let zeros = vec![in heap; 0u8; 65_537]?;
     match FileReader::new(zeros.as_slice()) {
         Ok(_) => Err(Fail::new("read")),
-        Err(fault) => check_said(fault.refusal(), 5, Layer::File, 0),
+        Err(fault) => check_said(fault.into(), 5, Layer::File, 0),
     }
 }
 
@@ -109,7 +109,7 @@ type Peek = Result<(u8, u8), Refusal>;
 fn peeked(reader: &mut FileReader<'_>) -> Peek {
     match reader.peek() {
         Ok((id, previous)) => Ok((id[31], previous[31])),
-        Err(fault) => Err(fault.refusal()),
+        Err(fault) => Err(fault.into()),
     }
 }
 
