@@ -48,7 +48,7 @@ pub enum Answer {
 }
 
 // The calls and answers of a list, each on a line.
-pub const fn start(halving: u64, maturity: u64, last: u64) -> Call {
+pub fn start(halving: u64, maturity: u64, last: u64) -> Call {
     Call::Start {
         halving,
         maturity,
@@ -56,19 +56,19 @@ pub const fn start(halving: u64, maturity: u64, last: u64) -> Call {
     }
 }
 
-pub const fn look(tx: u8, index: u32) -> Call {
+pub fn look(tx: u8, index: u32) -> Call {
     Call::Look { tx, index }
 }
 
-pub const fn next(tx: u8, index: u32) -> Call {
+pub fn next(tx: u8, index: u32) -> Call {
     Call::Next { tx, index }
 }
 
-pub const fn balance(kind: u8, argument: u64) -> Call {
+pub fn balance(kind: u8, argument: u64) -> Call {
     Call::Balance(Lock { kind, argument })
 }
 
-pub const fn connected(height: u32, made: u64, spent: u64, fees: u64, burned: u64) -> Answer {
+pub fn connected(height: u32, made: u64, spent: u64, fees: u64, burned: u64) -> Answer {
     Answer::Connected(Connected {
         height,
         made,
@@ -79,26 +79,26 @@ pub const fn connected(height: u32, made: u64, spent: u64, fees: u64, burned: u6
 }
 
 // Taken back, and it went clean.
-pub const fn disconnected(height: u32) -> Answer {
+pub fn disconnected(height: u32) -> Answer {
     Answer::Disconnected(Disconnected {
         height,
         outcome: Outcome::Clean,
     })
 }
 
-pub const fn tip(id: u8, height: u32) -> Answer {
+pub fn tip(id: u8, height: u32) -> Answer {
     Answer::Tip { id, height }
 }
 
-pub const fn coin(tx: u8, index: u32, value: u64) -> Answer {
+pub fn coin(tx: u8, index: u32, value: u64) -> Answer {
     Answer::Coin { tx, index, value }
 }
 
-pub const fn worth(coins: u64, value: u64) -> Answer {
+pub fn worth(coins: u64, value: u64) -> Answer {
     Answer::Balance(Balance { coins, value })
 }
 
-pub const fn refused(reason: Reason, first: u64, second: u64) -> Answer {
+pub fn refused(reason: Reason, first: u64, second: u64) -> Answer {
     Answer::Refused(Refusal {
         reason,
         first,

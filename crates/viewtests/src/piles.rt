@@ -1,4 +1,4 @@
-// Whether each pile of views agrees with the model over a list of calls.
+// Whether each pile of views agrees with the model over a list of calls: a function for each, so that a test's proof does not make the pile.
 use crate::drive::{Lists, agrees};
 use std::alloc::{AllocError, Global};
 use views::pile::{cached_quota, cached_table, quota_over_cache};

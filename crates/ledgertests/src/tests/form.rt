@@ -142,42 +142,47 @@ fn five_records(heap: Global) -> Result<Vec<u8>, AllocError> {
     Ok(file)
 }
 
-const fn refused(reason: Reason, first: u64) -> Refusal {
-    Refusal {
+// Refused at a place.
+fn refused(reason: Reason, first: u64) -> Peek {
+    Err(Refusal {
         reason,
         first,
         second: 0,
-    }
+    })
 }
 
-const FIVE_THEN_ENDED: [Peek; 7] = [
-    Ok((1, 0)),
-    Ok((3, 4)),
-    Err(refused(Reason::Cut, 32)),
-    Err(refused(Reason::Cut, 0)),
-    Err(refused(Reason::Cut, 0)),
-    Err(refused(Reason::Ended, 0)),
-    Err(refused(Reason::Ended, 0)),
-];
+fn five_then_ended() -> [Peek; 7] {
+    [
+        Ok((1, 0)),
+        Ok((3, 4)),
+        refused(Reason::Cut, 32),
+        refused(Reason::Cut, 0),
+        refused(Reason::Cut, 0),
+        refused(Reason::Ended, 0),
+        refused(Reason::Ended, 0),
+    ]
+}
 
-const FIVE_THEN_CUT: [Peek; 7] = [
-    Ok((1, 0)),
-    Ok((3, 4)),
-    Err(refused(Reason::Cut, 32)),
-    Err(refused(Reason::Cut, 0)),
-    Err(refused(Reason::Cut, 0)),
-    Err(refused(Reason::FileCut, 289)),
-    Err(refused(Reason::FileCut, 289)),
-];
+fn five_then_cut() -> [Peek; 7] {
+    [
+        Ok((1, 0)),
+        Ok((3, 4)),
+        refused(Reason::Cut, 32),
+        refused(Reason::Cut, 0),
+        refused(Reason::Cut, 0),
+        refused(Reason::FileCut, 289),
+        refused(Reason::FileCut, 289),
+    ]
+}
 
 #[test]
 fn peeking(rt: HostRuntime) -> Result<(), Fail> {
     let heap = rt.alloc();
     let mut file = five_records(heap)?;
-    peeks_agree("whole", file.as_slice(), &FIVE_THEN_ENDED)?;
+    peeks_agree("whole", file.as_slice(), &five_then_ended())?;
     file.extend_from_slice(&[9, 0, 0])?;
-    peeks_agree("cut in the length", file.as_slice(), &FIVE_THEN_CUT)?;
+    peeks_agree("cut in the length", file.as_slice(), &five_then_cut())?;
     file.extend_from_slice(&[0, 1, 2, 3])?;
-    peeks_agree("cut in the block", file.as_slice(), &FIVE_THEN_CUT)?;
-    peeks_agree("empty", &[], &[Err(refused(Reason::Ended, 0))])
+    peeks_agree("cut in the block", file.as_slice(), &five_then_cut())?;
+    peeks_agree("empty", &[], &[refused(Reason::Ended, 0)])
 }

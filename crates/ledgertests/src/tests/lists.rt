@@ -3,53 +3,73 @@ use crate::block::{Pay, Spend, coinbase_block, spending_block, to_seven};
 use crate::calls::{
     Answer, Call, balance, coin, connected, disconnected, look, next, refused, start, tip, worth,
 };
-use refusal::Reason;
+use refusal::{Reason, Refusal};
 use std::alloc::{AllocError, Global};
 
-const NOT_STARTED: Answer = refused(Reason::NotStarted, 0, 0);
+const NOT_STARTED: Answer = Answer::Refused(Refusal {
+    reason: Reason::NotStarted,
+    first: 0,
+    second: 0,
+});
 
-const PARAMETER: Answer = refused(Reason::Parameter, 0, 0);
+const PARAMETER: Answer = Answer::Refused(Refusal {
+    reason: Reason::Parameter,
+    first: 0,
+    second: 0,
+});
 
-const STARTED: Answer = refused(Reason::Started, 0, 0);
+const STARTED: Answer = Answer::Refused(Refusal {
+    reason: Reason::Started,
+    first: 0,
+    second: 0,
+});
 
-const NOTHING: Answer = refused(Reason::Nothing, 0, 0);
+const NOTHING: Answer = Answer::Refused(Refusal {
+    reason: Reason::Nothing,
+    first: 0,
+    second: 0,
+});
 
 // Every call before the start, starts out of range, and starts after the first. The blocks are `plain_blocks`.
-pub const STARTING: [(Call, Answer); 24] = [
-    (Call::Connect(0), NOT_STARTED),
-    (Call::Disconnect, NOT_STARTED),
-    (Call::Settle(3), NOT_STARTED),
-    (Call::Flush, NOT_STARTED),
-    (Call::Tip, NOT_STARTED),
-    (look(101, 0), NOT_STARTED),
-    (Call::First, NOT_STARTED),
-    (next(101, 0), NOT_STARTED),
-    (balance(1, 7), NOT_STARTED),
-    (start(0, 1, 1), PARAMETER),
-    (start(210_001, 1, 1), PARAMETER),
-    (start(1, 0, 1), PARAMETER),
-    (start(1, 101, 1), PARAMETER),
-    (start(1, 1, 0), PARAMETER),
-    (start(1, 1, 4_294_967_296), PARAMETER),
-    (Call::Tip, NOT_STARTED),
-    (start(210_000, 100, 4_294_967_295), Answer::Done),
-    (Call::Tip, tip(0, 0)),
-    (start(1, 1, 1), STARTED),
-    (Call::Connect(0), connected(1, 1, 0, 0, 4_999_999_999)),
-    (start(0, 0, 0), STARTED),
-    (Call::Connect(1), connected(2, 1, 0, 0, 4_999_999_998)),
-    (Call::Tip, tip(2, 2)),
-    (balance(1, 7), worth(2, 3)),
-];
+pub fn starting_calls() -> [(Call, Answer); 24] {
+    [
+        (Call::Connect(0), NOT_STARTED),
+        (Call::Disconnect, NOT_STARTED),
+        (Call::Settle(3), NOT_STARTED),
+        (Call::Flush, NOT_STARTED),
+        (Call::Tip, NOT_STARTED),
+        (look(101, 0), NOT_STARTED),
+        (Call::First, NOT_STARTED),
+        (next(101, 0), NOT_STARTED),
+        (balance(1, 7), NOT_STARTED),
+        (start(0, 1, 1), PARAMETER),
+        (start(210_001, 1, 1), PARAMETER),
+        (start(1, 0, 1), PARAMETER),
+        (start(1, 101, 1), PARAMETER),
+        (start(1, 1, 0), PARAMETER),
+        (start(1, 1, 4_294_967_296), PARAMETER),
+        (Call::Tip, NOT_STARTED),
+        (start(210_000, 100, 4_294_967_295), Answer::Done),
+        (Call::Tip, tip(0, 0)),
+        (start(1, 1, 1), STARTED),
+        (Call::Connect(0), connected(1, 1, 0, 0, 4_999_999_999)),
+        (start(0, 0, 0), STARTED),
+        (Call::Connect(1), connected(2, 1, 0, 0, 4_999_999_998)),
+        (Call::Tip, tip(2, 2)),
+        (balance(1, 7), worth(2, 3)),
+    ]
+}
 
 // A start over a view that holds a coin.
-pub const OVER_COINS: [(Call, Answer); 5] = [
-    (start(1, 1, 1), refused(Reason::NotEmpty, 0, 0)),
-    (start(0, 1, 1), PARAMETER),
-    (Call::Tip, NOT_STARTED),
-    (Call::Flush, NOT_STARTED),
-    (start(1, 1, 1), refused(Reason::NotEmpty, 0, 0)),
-];
+pub fn calls_over_coins() -> [(Call, Answer); 5] {
+    [
+        (start(1, 1, 1), refused(Reason::NotEmpty, 0, 0)),
+        (start(0, 1, 1), PARAMETER),
+        (Call::Tip, NOT_STARTED),
+        (Call::Flush, NOT_STARTED),
+        (start(1, 1, 1), refused(Reason::NotEmpty, 0, 0)),
+    ]
+}
 
 // Block n of 4 pays n.
 pub fn plain_blocks(heap: Global) -> Result<Vec<Vec<u8>>, AllocError> {
@@ -61,31 +81,33 @@ pub fn plain_blocks(heap: Global) -> Result<Vec<Vec<u8>>, AllocError> {
 }
 
 // Over `plain_blocks`.
-pub const SETTLING: [(Call, Answer); 23] = [
-    (start(100, 1, 50), Answer::Done),
-    (Call::Settle(3), Answer::Kept(0)),
-    (Call::Disconnect, NOTHING),
-    (Call::Connect(0), connected(1, 1, 0, 0, 4_999_999_999)),
-    (Call::Connect(1), connected(2, 1, 0, 0, 4_999_999_998)),
-    (Call::Connect(2), connected(3, 1, 0, 0, 4_999_999_997)),
-    (Call::Connect(3), connected(4, 1, 0, 0, 4_999_999_996)),
-    (Call::Settle(9), Answer::Kept(4)),
-    (Call::Settle(2), Answer::Kept(2)),
-    (Call::Settle(3), Answer::Kept(2)),
-    (Call::Disconnect, disconnected(4)),
-    (Call::Disconnect, disconnected(3)),
-    (Call::Disconnect, NOTHING),
-    (Call::Tip, tip(2, 2)),
-    (balance(1, 7), worth(2, 3)),
-    (Call::Connect(2), connected(3, 1, 0, 0, 4_999_999_997)),
-    (Call::Settle(0), Answer::Kept(0)),
-    (Call::Disconnect, NOTHING),
-    (Call::Tip, tip(3, 3)),
-    (Call::Settle(18_446_744_073_709_551_615), Answer::Kept(0)),
-    (Call::Connect(3), connected(4, 1, 0, 0, 4_999_999_996)),
-    (Call::Disconnect, disconnected(4)),
-    (Call::Disconnect, NOTHING),
-];
+pub fn settling_calls() -> [(Call, Answer); 23] {
+    [
+        (start(100, 1, 50), Answer::Done),
+        (Call::Settle(3), Answer::Kept(0)),
+        (Call::Disconnect, NOTHING),
+        (Call::Connect(0), connected(1, 1, 0, 0, 4_999_999_999)),
+        (Call::Connect(1), connected(2, 1, 0, 0, 4_999_999_998)),
+        (Call::Connect(2), connected(3, 1, 0, 0, 4_999_999_997)),
+        (Call::Connect(3), connected(4, 1, 0, 0, 4_999_999_996)),
+        (Call::Settle(9), Answer::Kept(4)),
+        (Call::Settle(2), Answer::Kept(2)),
+        (Call::Settle(3), Answer::Kept(2)),
+        (Call::Disconnect, disconnected(4)),
+        (Call::Disconnect, disconnected(3)),
+        (Call::Disconnect, NOTHING),
+        (Call::Tip, tip(2, 2)),
+        (balance(1, 7), worth(2, 3)),
+        (Call::Connect(2), connected(3, 1, 0, 0, 4_999_999_997)),
+        (Call::Settle(0), Answer::Kept(0)),
+        (Call::Disconnect, NOTHING),
+        (Call::Tip, tip(3, 3)),
+        (Call::Settle(18_446_744_073_709_551_615), Answer::Kept(0)),
+        (Call::Connect(3), connected(4, 1, 0, 0, 4_999_999_996)),
+        (Call::Disconnect, disconnected(4)),
+        (Call::Disconnect, NOTHING),
+    ]
+}
 
 // Eight blocks of 64 coins each: seven of them leave 57 of the 512 undo entries, and each needs 65.
 pub fn wide_blocks(heap: Global) -> Result<Vec<Vec<u8>>, AllocError> {
@@ -97,24 +119,26 @@ pub fn wide_blocks(heap: Global) -> Result<Vec<Vec<u8>>, AllocError> {
 }
 
 // Over `wide_blocks`: a settle frees entries for the block that found too few.
-pub const CROWDING: [(Call, Answer); 16] = [
-    (start(100, 1, 50), Answer::Done),
-    (Call::Connect(0), connected(1, 64, 0, 0, 4_999_999_936)),
-    (Call::Connect(1), connected(2, 64, 0, 0, 4_999_999_936)),
-    (Call::Connect(2), connected(3, 64, 0, 0, 4_999_999_936)),
-    (Call::Connect(3), connected(4, 64, 0, 0, 4_999_999_936)),
-    (Call::Connect(4), connected(5, 64, 0, 0, 4_999_999_936)),
-    (Call::Connect(5), connected(6, 64, 0, 0, 4_999_999_936)),
-    (Call::Connect(6), connected(7, 64, 0, 0, 4_999_999_936)),
-    (Call::Connect(7), refused(Reason::LogFull, 0, 0)),
-    (Call::Settle(6), Answer::Kept(6)),
-    (Call::Connect(7), connected(8, 64, 0, 0, 4_999_999_936)),
-    (balance(1, 7), worth(512, 512)),
-    (Call::Settle(1), Answer::Kept(1)),
-    (Call::Disconnect, disconnected(8)),
-    (Call::Disconnect, NOTHING),
-    (balance(1, 7), worth(448, 448)),
-];
+pub fn crowding_calls() -> [(Call, Answer); 16] {
+    [
+        (start(100, 1, 50), Answer::Done),
+        (Call::Connect(0), connected(1, 64, 0, 0, 4_999_999_936)),
+        (Call::Connect(1), connected(2, 64, 0, 0, 4_999_999_936)),
+        (Call::Connect(2), connected(3, 64, 0, 0, 4_999_999_936)),
+        (Call::Connect(3), connected(4, 64, 0, 0, 4_999_999_936)),
+        (Call::Connect(4), connected(5, 64, 0, 0, 4_999_999_936)),
+        (Call::Connect(5), connected(6, 64, 0, 0, 4_999_999_936)),
+        (Call::Connect(6), connected(7, 64, 0, 0, 4_999_999_936)),
+        (Call::Connect(7), refused(Reason::LogFull, 0, 0)),
+        (Call::Settle(6), Answer::Kept(6)),
+        (Call::Connect(7), connected(8, 64, 0, 0, 4_999_999_936)),
+        (balance(1, 7), worth(512, 512)),
+        (Call::Settle(1), Answer::Kept(1)),
+        (Call::Disconnect, disconnected(8)),
+        (Call::Disconnect, NOTHING),
+        (balance(1, 7), worth(448, 448)),
+    ]
+}
 
 const TWO_OF_ONE: [Spend; 2] = [
     Spend {
@@ -144,20 +168,22 @@ pub fn tight_blocks(heap: Global) -> Result<Vec<Vec<u8>>, AllocError> {
 }
 
 // Over `tight_blocks`: a coin that is there already is told before a full view.
-pub const FILLING: [(Call, Answer); 12] = [
-    (start(100, 1, 50), Answer::Done),
-    (Call::Connect(0), connected(1, 2, 0, 0, 4_999_997_000)),
-    (Call::Connect(1), refused(Reason::Full, 0, 1)),
-    (Call::Connect(2), refused(Reason::Full, 1, 1)),
-    (Call::Connect(3), connected(2, 3, 2, 2200, 5_000_002_190)),
-    (Call::Connect(4), refused(Reason::Exists, 0, 0)),
-    (Call::Connect(5), refused(Reason::Full, 0, 0)),
-    (balance(1, 7), worth(3, 810)),
-    (Call::Disconnect, disconnected(2)),
-    (balance(1, 7), worth(2, 3000)),
-    (Call::Connect(2), refused(Reason::Full, 1, 1)),
-    (Call::Connect(3), connected(2, 3, 2, 2200, 5_000_002_190)),
-];
+pub fn filling_calls() -> [(Call, Answer); 12] {
+    [
+        (start(100, 1, 50), Answer::Done),
+        (Call::Connect(0), connected(1, 2, 0, 0, 4_999_997_000)),
+        (Call::Connect(1), refused(Reason::Full, 0, 1)),
+        (Call::Connect(2), refused(Reason::Full, 1, 1)),
+        (Call::Connect(3), connected(2, 3, 2, 2200, 5_000_002_190)),
+        (Call::Connect(4), refused(Reason::Exists, 0, 0)),
+        (Call::Connect(5), refused(Reason::Full, 0, 0)),
+        (balance(1, 7), worth(3, 810)),
+        (Call::Disconnect, disconnected(2)),
+        (balance(1, 7), worth(2, 3000)),
+        (Call::Connect(2), refused(Reason::Full, 1, 1)),
+        (Call::Connect(3), connected(2, 3, 2, 2200, 5_000_002_190)),
+    ]
+}
 
 // Outputs to badge 7, to badge 8, burned, and to the clock of height 5.
 const KINDS: [Pay; 4] = [
@@ -237,51 +263,55 @@ pub fn mixed_blocks(heap: Global) -> Result<Vec<Vec<u8>>, AllocError> {
 }
 
 // Over `mixed_blocks`: every reading at the start, after one block, after two, and on the way back.
-pub const READING: [(Call, Answer); 38] = [
-    (start(100, 1, 50), Answer::Done),
-    (Call::First, Answer::NoCoin),
-    (look(101, 0), Answer::NoCoin),
-    (balance(1, 7), worth(0, 0)),
-    (Call::Connect(0), connected(1, 3, 0, 0, 4_999_993_000)),
-    (Call::Tip, tip(1, 1)),
-    (Call::First, coin(101, 0, 1000)),
-    (next(101, 0), coin(101, 1, 2000)),
-    (next(101, 1), coin(101, 3, 4000)),
-    (next(101, 2), coin(101, 3, 4000)),
-    (next(101, 3), Answer::NoCoin),
-    (next(50, 9), coin(101, 0, 1000)),
-    (next(200, 0), Answer::NoCoin),
-    (look(101, 1), coin(101, 1, 2000)),
-    (look(101, 2), Answer::NoCoin),
-    (balance(1, 8), worth(1, 2000)),
-    (balance(2, 5), worth(1, 4000)),
-    (balance(0, 0), worth(0, 0)),
-    (Call::Connect(1), connected(2, 2, 2, 500, 5_000_000_495)),
-    (Call::Tip, tip(2, 2)),
-    (Call::First, coin(101, 3, 4000)),
-    (next(101, 3), coin(102, 0, 5)),
-    (next(102, 0), coin(202, 0, 2500)),
-    (next(202, 0), Answer::NoCoin),
-    (balance(1, 7), worth(2, 2505)),
-    (Call::Connect(1), refused(Reason::Parent, 0, 0)),
-    (Call::Connect(2), refused(Reason::Shut, 1, 1)),
-    (Call::Connect(3), refused(Reason::Missing, 1, 1)),
-    (Call::Connect(4), refused(Reason::Claim, 0, 0)),
-    (Call::Flush, Answer::Done),
-    (Call::Disconnect, disconnected(2)),
-    (Call::Tip, tip(1, 1)),
-    (look(101, 0), coin(101, 0, 1000)),
-    (look(202, 0), Answer::NoCoin),
-    (Call::Disconnect, disconnected(1)),
-    (Call::Tip, tip(0, 0)),
-    (Call::First, Answer::NoCoin),
-    (Call::Disconnect, NOTHING),
-];
+pub fn reading_calls() -> [(Call, Answer); 38] {
+    [
+        (start(100, 1, 50), Answer::Done),
+        (Call::First, Answer::NoCoin),
+        (look(101, 0), Answer::NoCoin),
+        (balance(1, 7), worth(0, 0)),
+        (Call::Connect(0), connected(1, 3, 0, 0, 4_999_993_000)),
+        (Call::Tip, tip(1, 1)),
+        (Call::First, coin(101, 0, 1000)),
+        (next(101, 0), coin(101, 1, 2000)),
+        (next(101, 1), coin(101, 3, 4000)),
+        (next(101, 2), coin(101, 3, 4000)),
+        (next(101, 3), Answer::NoCoin),
+        (next(50, 9), coin(101, 0, 1000)),
+        (next(200, 0), Answer::NoCoin),
+        (look(101, 1), coin(101, 1, 2000)),
+        (look(101, 2), Answer::NoCoin),
+        (balance(1, 8), worth(1, 2000)),
+        (balance(2, 5), worth(1, 4000)),
+        (balance(0, 0), worth(0, 0)),
+        (Call::Connect(1), connected(2, 2, 2, 500, 5_000_000_495)),
+        (Call::Tip, tip(2, 2)),
+        (Call::First, coin(101, 3, 4000)),
+        (next(101, 3), coin(102, 0, 5)),
+        (next(102, 0), coin(202, 0, 2500)),
+        (next(202, 0), Answer::NoCoin),
+        (balance(1, 7), worth(2, 2505)),
+        (Call::Connect(1), refused(Reason::Parent, 0, 0)),
+        (Call::Connect(2), refused(Reason::Shut, 1, 1)),
+        (Call::Connect(3), refused(Reason::Missing, 1, 1)),
+        (Call::Connect(4), refused(Reason::Claim, 0, 0)),
+        (Call::Flush, Answer::Done),
+        (Call::Disconnect, disconnected(2)),
+        (Call::Tip, tip(1, 1)),
+        (look(101, 0), coin(101, 0, 1000)),
+        (look(202, 0), Answer::NoCoin),
+        (Call::Disconnect, disconnected(1)),
+        (Call::Tip, tip(0, 0)),
+        (Call::First, Answer::NoCoin),
+        (Call::Disconnect, NOTHING),
+    ]
+}
 
 // Over `mixed_blocks`: coins that were flushed are spent.
-pub const UNFLUSHED: [(Call, Answer); 4] = [
-    (start(100, 1, 50), Answer::Done),
-    (Call::Connect(0), connected(1, 3, 0, 0, 4_999_993_000)),
-    (Call::Flush, Answer::Done),
-    (Call::Connect(1), connected(2, 2, 2, 500, 5_000_000_495)),
-];
+pub fn unflushed_calls() -> [(Call, Answer); 4] {
+    [
+        (start(100, 1, 50), Answer::Done),
+        (Call::Connect(0), connected(1, 3, 0, 0, 4_999_993_000)),
+        (Call::Flush, Answer::Done),
+        (Call::Connect(1), connected(2, 2, 2, 500, 5_000_000_495)),
+    ]
+}

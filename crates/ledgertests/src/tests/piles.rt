@@ -2,8 +2,8 @@
 use crate::calls::{Answer, Call};
 use crate::state::state_of;
 use crate::tests::lists::{
-    CROWDING, FILLING, OVER_COINS, READING, SETTLING, STARTING, UNFLUSHED, mixed_blocks,
-    plain_blocks, tight_blocks, wide_blocks,
+    calls_over_coins, crowding_calls, filling_calls, mixed_blocks, plain_blocks, reading_calls,
+    settling_calls, starting_calls, tight_blocks, unflushed_calls, wide_blocks,
 };
 use crate::tests::{agrees, check};
 use cache::cache::Cache;
@@ -44,18 +44,18 @@ fn cache_agrees(heap: Global, blocks: &[Vec<u8>], list: &[(Call, Answer)]) -> Re
 
 #[test]
 fn starting(rt: HostRuntime) -> Result<(), Fail> {
-    cache_agrees(rt.alloc(), &plain_blocks(rt.alloc())?, &STARTING)
+    cache_agrees(rt.alloc(), &plain_blocks(rt.alloc())?, &starting_calls())
 }
 
 #[test]
 fn settling(rt: HostRuntime) -> Result<(), Fail> {
-    cache_agrees(rt.alloc(), &plain_blocks(rt.alloc())?, &SETTLING)?;
-    cache_agrees(rt.alloc(), &wide_blocks(rt.alloc())?, &CROWDING)
+    cache_agrees(rt.alloc(), &plain_blocks(rt.alloc())?, &settling_calls())?;
+    cache_agrees(rt.alloc(), &wide_blocks(rt.alloc())?, &crowding_calls())
 }
 
 #[test]
 fn reading(rt: HostRuntime) -> Result<(), Fail> {
-    cache_agrees(rt.alloc(), &mixed_blocks(rt.alloc())?, &READING)
+    cache_agrees(rt.alloc(), &mixed_blocks(rt.alloc())?, &reading_calls())
 }
 
 #[test]
@@ -65,7 +65,7 @@ fn start_over_coins(rt: HostRuntime) -> Result<(), Fail> {
     let mut table = FlatTable::new(&mut cells);
     assert!(rt; table.put(CELL.0, CELL.1).is_ok());
     let mut ledger = Ledger::new(table, Badge);
-    agrees(heap, &mut ledger, &plain_blocks(heap)?, &OVER_COINS)
+    agrees(heap, &mut ledger, &plain_blocks(heap)?, &calls_over_coins())
 }
 
 #[test]
@@ -73,7 +73,7 @@ fn filling_a_table(rt: HostRuntime) -> Result<(), Fail> {
     let heap = rt.alloc();
     let mut cells = [CELL; 3];
     let mut ledger = Ledger::new(FlatTable::new(&mut cells), Badge);
-    agrees(heap, &mut ledger, &tight_blocks(heap)?, &FILLING)
+    agrees(heap, &mut ledger, &tight_blocks(heap)?, &filling_calls())
 }
 
 #[test]
@@ -81,7 +81,7 @@ fn filling_a_quota(rt: HostRuntime) -> Result<(), Fail> {
     let heap = rt.alloc();
     let mut cells = [CELL; 8];
     let mut ledger = Ledger::new(cached_quota(&mut cells, 3), Badge);
-    agrees(heap, &mut ledger, &tight_blocks(heap)?, &FILLING)
+    agrees(heap, &mut ledger, &tight_blocks(heap)?, &filling_calls())
 }
 
 // Makes the calls over a cache on a table in the cells, with a flush at the end or without, and answers the coins.
@@ -91,7 +91,7 @@ fn coins_after(
     flush: bool,
 ) -> Result<Vec<(Outpoint, Coin)>, Fail> {
     let mut ledger = Ledger::new(cached_table(cells), Badge);
-    agrees(heap, &mut ledger, &mixed_blocks(heap)?, &UNFLUSHED)?;
+    agrees(heap, &mut ledger, &mixed_blocks(heap)?, &unflushed_calls())?;
     if flush {
         check(ledger.flush().is_ok(), "flush")?;
     }
