@@ -2,7 +2,6 @@
 ghost use Rattle.std.specs.Prelude.{◌≡◌, Ok, Err, MatchResult};
 ghost use Rattle.connecting.specs.Refusals.{input_reason, transaction_refusal, block_refusal};
 ghost use Rattle.connecting.specs.declared.fault.InputFault.TheVariants.{View as OfView};
-ghost use Rattle.connecting.specs.declared.fault.TransactionFault.TheVariants.{Item as AtItem};
 ghost use Rattle.connecting.specs.declared.fault.BlockFault.TheVariants.{Form as OfForm, Transaction as AtTransaction};
 
 use blockform::fault::FormFault;
@@ -59,13 +58,6 @@ impl From<FormFault> for BlockFault {
     fn from(f: FormFault) -> BlockFault {
         BlockFault::Form(f)
     }
-}
-
-// An input's or an output's answer, with its place in the transaction.
-pub fn at_item<X>(r: Result<X, InputFault>, item: usize) -> Result<X, TransactionFault>
-    ensures { MatchResult r (λ x. result ≡ Ok x) (λ f. result ≡ Err (AtItem item f)) }
-{
-    r.map_err(|fault| TransactionFault::Item { item, fault })
 }
 
 // A transaction's answer, with its place in the block.
