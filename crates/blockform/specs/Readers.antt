@@ -1,7 +1,8 @@
 -- What a reader still has to hand out.
 use Rattle.std.specs.Prelude.{◌≡◌, ℕ, ◌+◌, ◌≤◌, true, List, [], ◌∷◌, map, length, is_ok, Option, IfSome, MatchOption}
 use Rattle.std.specs.Iterator.{YieldsFirstBy}
-use Rattle.blockbytes.specs.Form.{times, item, transaction, block}
+use Rattle.blockbytes.specs.Form.{times, transaction, block}
+use Rattle.blockform.specs.Kinds.{item, item_at, item_end}
 use Rattle.blockform.specs.declared.reader.Item.{Item}
 use Rattle.blockform.specs.declared.reader.Item.TheVariants.{Input, Output}
 use Rattle.blockform.specs.declared.reader.Items.{Items}
@@ -9,7 +10,7 @@ use Rattle.blockform.specs.declared.reader.Transaction.{Transaction}
 use Rattle.blockform.specs.declared.reader.Transactions.{Transactions}
 use Rattle.blockform.specs.declared.reader.Block.{Block}
 use Rattle.blockbytes.specs.Value.{TransactionValue, BlockValue, Piece, spends, makes, encode_all, encode_input, encode_piece, encode_transaction, PieceWithin}
-use Rattle.blockbytes.specs.Places.{list_at, item_at, item_end, transaction_at, transaction_end, block_at}
+use Rattle.blockbytes.specs.Places.{list_at, transaction_at, transaction_end, block_at}
 
 abbrev pub piece_of : Item → Piece
 piece_of (Input offset id index witness) = spends (record { outpoint = record { id = id.now; index = index }; witness = witness.now })
@@ -20,7 +21,7 @@ offset_of (Input offset id index witness) = offset
 offset_of (Output offset value lock) = offset
 
 unfoldable pub items_of : Items → List Piece
-items_of r = list_at r.left (item_at r.inputs r.block.now) (item_end r.inputs r.block.now) r.place
+items_of r = list_at r.left (item_at r.kind r.block.now) (item_end r.kind r.block.now) r.place
 
 unfoldable pub transactions_of : Transactions → List TransactionValue
 transactions_of r = list_at r.left (transaction_at r.block.now) (transaction_end r.block.now) r.place
@@ -30,7 +31,7 @@ block_of r = block_at r.bytes.now
 
 -- what is left of a reader is well formed
 unfoldable pub ItemsGood : Items → Type 0
-ItemsGood r = (r.left ≤ 64) × (is_ok (times r.left (item r.inputs r.block.now) r.place) ≡ true)
+ItemsGood r = (r.left ≤ 64) × (is_ok (times r.left (item r.kind r.block.now) r.place) ≡ true)
 
 unfoldable pub TransactionsGood : Transactions → Type 0
 TransactionsGood r = (r.left ≤ 64) × (is_ok (times r.left (transaction r.block.now) r.place) ≡ true)

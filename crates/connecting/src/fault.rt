@@ -106,12 +106,12 @@ impl From<BlockFault> for Refusal {
 
     fn from(f: BlockFault) -> Refusal {
         match f {
-            BlockFault::Form(f) => f.refusal(),
-            BlockFault::Parent => Refusal::from(Reason::Parent),
-            BlockFault::LastHeight => Refusal::from(Reason::LastHeight),
-            BlockFault::LogFull => Refusal::from(Reason::LogFull),
-            BlockFault::NoCoinbase => Refusal::from(Reason::NoCoinbase),
-            BlockFault::Claim => Refusal::from(Reason::Claim),
+            BlockFault::Form(f) => f.into(),
+            BlockFault::Parent => Reason::Parent.into(),
+            BlockFault::LastHeight => Reason::LastHeight.into(),
+            BlockFault::LogFull => Reason::LogFull.into(),
+            BlockFault::NoCoinbase => Reason::NoCoinbase.into(),
+            BlockFault::Claim => Reason::Claim.into(),
             BlockFault::Transaction { transaction, fault } => fault.refusal(transaction),
         }
     }

@@ -183,7 +183,7 @@ fn connect_next<V: CoinsView, C: SpendCondition>(
             let to = file.place();
             connect(ledger, file.bytes(), to - block.len(), to)
         }
-        Err(fault) => Line::Refused(fault.refusal()),
+        Err(fault) => Line::Refused(fault.into()),
     }
 }
 

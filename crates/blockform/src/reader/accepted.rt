@@ -6,7 +6,7 @@ ghost use Rattle.blockbytes.specs.Value.{BlockValue};
 ghost use Rattle.blockform.specs.Readers.{block_of, transactions_of, next_transaction, BlockGood, TransactionsGood};
 
 use crate::MAX_BLOCK;
-use crate::reader::fields::id_at;
+use crate::reader::fields::array_at;
 use crate::reader::{Block, Transactions};
 use blockbytes::fault::FormFault;
 use blockbytes::form;
@@ -28,13 +28,13 @@ impl<'a> Block<'a> {
     pub fn id(&self) -> &'a [u8; 32]
         ensures { result.now ≡ (block_of self.now).id }
     {
-        id_at(self.bytes, 0)
+        array_at(self.bytes, 0)
     }
 
     pub fn previous(&self) -> &'a [u8; 32]
         ensures { result.now ≡ (block_of self.now).previous }
     {
-        id_at(self.bytes, 32)
+        array_at(self.bytes, 32)
     }
 
     pub fn transactions(&self) -> Transactions<'a>

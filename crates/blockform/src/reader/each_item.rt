@@ -28,7 +28,7 @@ impl<'a> Iterator for Items<'a> {
         if self.left == 0 {
             return None;
         }
-        let (next, end) = item(self.block, self.place, self.inputs);
+        let (next, end) = item(self.block, self.place, self.kind);
         self.place = end;
         self.left -= 1;
         Some(next)

@@ -3,8 +3,8 @@ ghost use Rattle.std.specs.Prelude.{◌≡◌, ◌≤◌, length};
 ghost use Rattle.std.specs.Iterator.{item_count};
 ghost use Rattle.blockform.specs.Readers.{transactions_of, HandsTransaction};
 
-use crate::reader::fields::{id_at, past_inputs};
-use crate::reader::{Items, Transaction, Transactions};
+use crate::reader::fields::{array_at, past_inputs};
+use crate::reader::{Items, Kind, Transaction, Transactions};
 
 impl<'a> Transactions<'a> {
     // How many are still to come.
@@ -30,20 +30,20 @@ impl<'a> Iterator for Transactions<'a> {
         }
         let block = self.block;
         let offset = self.place;
-        let id = id_at(block, offset);
+        let id = array_at(block, offset);
         let count = offset + 32;
         let inputs = Items {
             block,
             place: count + 1,
             left: block[count] as usize,
-            inputs: true,
+            kind: Kind::Input,
         };
         let end = past_inputs(block, inputs.place, inputs.left);
         let outputs = Items {
             block,
             place: end + 1,
             left: block[end] as usize,
-            inputs: false,
+            kind: Kind::Output,
         };
         self.place = outputs.place + 17 * outputs.left;
         self.left -= 1;

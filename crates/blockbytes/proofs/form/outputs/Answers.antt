@@ -3,18 +3,6 @@ use Rattle.blockbytes.specs.Form.{then, times, output}
 use Rattle.blockbytes.proofs.Steps.{next, count_ok, outputs_yes}
 use Rattle.blockbytes.proofs.form.outputs.Goals as goal
 
-pub returns-in_err-at : goal.returns-in_err-at
-returns-in_err-at c =
-    let lt : c.loop-i._i < c.in_ok-n.n = omega arith in
-    let e = next (output c.args.b.now) c.in_ok-n.n c.loop-i._i c.loop-i.at lt in
-    search rules
-
-pub loop-i-preserved : goal.loop-i-preserved
-loop-i-preserved c =
-    let lt : c.loop-i._i < c.in_ok-n.n = omega arith in
-    let e = next (output c.args.b.now) c.in_ok-n.n c.loop-i._i c.loop-i.at lt in
-    search rules
-
 pub overflow_sub-b : goal.overflow_sub-b
 overflow_sub-b c =
     let k = count_ok 64 c.args.b.now c.args.at c.in_ok-n.n c.in_ok-n.at (lit< tt) (sym c.in_ok-n.ensures) in

@@ -15,8 +15,8 @@ returns-then-self-eq0 c =
     let e = list_none (transaction_at r.block.now) (transaction_end r.block.now) r.left r.place c.if-self-eq0.true in
     record { steps = (e, e); goes = nearer transactions_of _ _ None tt }
 
-pub id_at-id-requires : goal.id_at-id-requires
-id_at-id-requires c = omega (arith, (next_found c.args.self.now c.if-self-eq0.false).id)
+pub array_at-id-requires : goal.array_at-id-requires
+array_at-id-requires c = omega (arith, (next_found c.args.self.now c.if-self-eq0.false).id)
 
 pub overflow_add-inputs : goal.overflow_add-inputs
 overflow_add-inputs c = omega (arith, (next_found c.args.self.now c.if-self-eq0.false).id)
@@ -80,7 +80,7 @@ returns c =
       steps = (
         transaction_at b at,
         record {
-          id = c.id_at-id.ensures;
+          id = c.array_at-id.ensures;
           first_input = omega arith;
           first_output = ap (λ k. k + 1) (mid ∙ inputs_long b r.left at f);
           inputs = map_list spends (input_at b) (input_end b) (get_or b (at + 32) 0) (at + 32 + 1);
