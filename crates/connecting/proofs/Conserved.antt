@@ -1,5 +1,5 @@
 -- What a block takes from the coins and adds to them. Assumes nothing.
-use Rattle.std.proofs.Common.{◌≡◌, ℕ, ◌+◌, ◌-◌, ◌<◌, ◌≤◌, Bool, true, false, cond, ◌&&◌, ltb, leb, ◌⊎◌, List, [], ◌∷◌, Some, None, Ok, Err, Option, Result, sym, refl, ap, ◌∙◌, subst, inl, inr, arith, ltb-false}
+use Rattle.std.proofs.Common.{◌≡◌, ℕ, ◌+◌, ◌-◌, ◌<◌, ◌≤◌, Bool, true, false, cond, ◌&&◌, ltb, leb, ◌⊎◌, List, [], ◌∷◌, Some, None, Ok, Err, Option, Result, IsErrAnd, MatchResult, sym, refl, ap, ◌∙◌, subst, inl, inr, arith, ltb-false}
 use Rattle.std.proofs.lemmas.Bool.Decides.{leb_tells}
 use Rattle.coins.specs.declared.coin.Coin.{Coin}
 use Rattle.coins.specs.declared.coin.Lock.{Lock}
@@ -38,6 +38,11 @@ item_ok i (Err f) x h = no_err _ x h
 pub transaction_ok : {X : Type 0} (t : ℕ) (r : Result X TransactionFault) (x : X) → at_transaction t r ≡ Ok x → r ≡ Ok x
 transaction_ok t (Ok y) x h = let e : y ≡ x = cc in ap Ok e
 transaction_ok t (Err f) x h = no_err _ x h
+
+-- an answer whose fault was given its place
+pub placed_ok : {X E F : Type 0} (r : Result X E) (o : Result X F) (P : E → F → Type 0) (x : X) → MatchResult r (λ y. o ≡ Ok y) (λ e. IsErrAnd o (P e)) → o ≡ Ok x → r ≡ Ok x
+placed_ok (Ok y) o P x h e = let z : y ≡ x = cc in ap Ok z
+placed_ok (Err f) o P x h e = let z : IsErrAnd (Ok x) (P f) = rw e at h in absurd z
 
 -- a test that refuses where it is true, and was false
 pub test_ok : {X F : Type 0} (b : Bool) (e : F) (r : Result X F) (x : X) → cond b (Err e) r ≡ Ok x → (b ≡ false) × (r ≡ Ok x)

@@ -2,7 +2,6 @@
 ghost use Rattle.std.specs.Prelude.{◌≡◌, Ok, Err, MatchResult};
 ghost use Rattle.connecting.specs.Refusals.{input_reason, transaction_refusal, block_refusal};
 ghost use Rattle.connecting.specs.declared.fault.InputFault.TheVariants.{View as OfView};
-ghost use Rattle.connecting.specs.declared.fault.TransactionFault.TheVariants.{Item as AtItem};
 ghost use Rattle.connecting.specs.declared.fault.BlockFault.TheVariants.{Form as OfForm, Transaction as AtTransaction};
 
 use blockform::fault::FormFault;
@@ -61,13 +60,6 @@ impl From<FormFault> for BlockFault {
     }
 }
 
-// An input's or an output's answer, with its place in the transaction.
-pub fn at_item<X>(r: Result<X, InputFault>, item: usize) -> Result<X, TransactionFault>
-    ensures { MatchResult r (λ x. result ≡ Ok x) (λ f. result ≡ Err (AtItem item f)) }
-{
-    r.map_err(|fault| TransactionFault::Item { item, fault })
-}
-
 // A transaction's answer, with its place in the block.
 pub fn at_transaction<X>(
     r: Result<X, TransactionFault>,
@@ -115,11 +107,11 @@ impl From<BlockFault> for Refusal {
     fn from(f: BlockFault) -> Refusal {
         match f {
             BlockFault::Form(f) => f.into(),
-            BlockFault::Parent => Refusal::from(Reason::Parent),
-            BlockFault::LastHeight => Refusal::from(Reason::LastHeight),
-            BlockFault::LogFull => Refusal::from(Reason::LogFull),
-            BlockFault::NoCoinbase => Refusal::from(Reason::NoCoinbase),
-            BlockFault::Claim => Refusal::from(Reason::Claim),
+            BlockFault::Parent => Reason::Parent.into(),
+            BlockFault::LastHeight => Reason::LastHeight.into(),
+            BlockFault::LogFull => Reason::LogFull.into(),
+            BlockFault::NoCoinbase => Reason::NoCoinbase.into(),
+            BlockFault::Claim => Reason::Claim.into(),
             BlockFault::Transaction { transaction, fault } => fault.refusal(transaction),
         }
     }

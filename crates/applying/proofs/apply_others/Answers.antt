@@ -6,6 +6,7 @@ use Rattle.blockform.proofs.Few.{transactions_few}
 use Rattle.connecting.specs.Applied.{Answers, setting, value_of, Moneyed, spending_needs}
 use Rattle.connecting.specs.Rules.{added, others_needs, spending}
 use Rattle.connecting.specs.declared.fault.TransactionFault.{TransactionFault}
+use Rattle.connecting.proofs.Conserved.{placed_ok}
 use Rattle.unwinding.proofs.Undone.{taken_twice}
 use Rattle.applying.proofs.Applying.{opened, others_applied, others_refused}
 use Rattle.applying.proofs.apply_others.Goals as goal
@@ -40,7 +41,7 @@ loop-before-preserved g c =
     let o = opened c.in-Some.tx h.0 (transactions_of l.before-iterator.iter) us h.1 h.2 in
     let e = c.apply_spending.ensures in
     let one = c.in_ok-one.one in
-    let is : c.apply_spending.result ≡ Ok one = search rules in
+    let is = placed_ok c.apply_spending.result c.map_err.result _ one c.map_err.ensures.cases c.in_ok-one.was in
     let few : (one.made ≤ 64) × (one.spent ≤ 64) × (one.fees ≤ 64 * 2100000000000000) × (one.burned ≤ 2100000000000000) = rw is at e.few in
     let long : length (entries c.apply_spending.new.state.undo) ≡ length (entries l.state.undo) + spending_needs x = rw is at e.long in
     let moneyed : All Moneyed (x ∷ us) = rw o.is at l.invariant.money in

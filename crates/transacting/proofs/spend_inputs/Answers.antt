@@ -5,6 +5,7 @@ use Rattle.blockform.specs.Value.{spends}
 use Rattle.blockform.specs.Readers.{items_of, items_good, piece_of}
 use Rattle.blockform.proofs.Few.{items_few}
 use Rattle.connecting.specs.Parts.{inputs_in}
+use Rattle.connecting.proofs.Conserved.{placed_ok}
 use Rattle.unwinding.proofs.Undone.{taken_twice}
 use Rattle.transacting.proofs.Turns.{input_spent}
 use Rattle.transacting.proofs.spend_inputs.Goals as goal
@@ -30,7 +31,7 @@ loop-item-preserved g c =
     let ps = items_of l.item-iterator.iter in
     let qs = items_of c.next.new.self.iter in
     let hands : items_of l.item-iterator.iter ≡ spends (record { outpoint = at; witness = c.in-Input.witness.now }) ∷ items_of c.next.new.self.iter = s.0.0 ∙ ap (λ i. piece_of i ∷ qs) c.in-Input.is in
-    let is : c.spend.result ≡ Ok coin = search rules in
+    let is = placed_ok c.spend.result c.map_err.result _ coin c.map_err.ensures.cases c.in_ok-coin.was in
     let one : length (inputs_in ps) ≡ length (inputs_in qs) + 1 = omega (arith, ap (λ x. length (inputs_in x)) hands) in
     let long : length (entries c.spend.new.state.undo) ≡ length (entries l.state.undo) + 1 = rw is at c.spend.ensures.long in
     let value = input_spent (g.C.SpendCondition.opens k.condition.now) k.maturity k.height l.item-iterator.count at c.in-Input.witness.now ps qs (v.coins l.state.view) l.paid hands coin (v.coins c.spend.new.state.view) (sym is ∙ c.spend.ensures.value) (rw is at c.spend.ensures.map) in
