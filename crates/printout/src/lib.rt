@@ -90,11 +90,13 @@ pub fn append(out: &mut String, line: Line) -> Result<(), AllocError>
 }
 
 // The theorem that the lines of a first lesson read as it prints them.
+#[tactic(auto, using(crate::proofs::Free::as_printed))]
 pub fn reads_as_printed()
     ensures { ReadsAsPrinted }
 {}
 
 // The theorem that the text of a line has no LF.
+#[tactic(auto, using(crate::proofs::Free::one_line))]
 pub fn one_line_each()
     ensures { OneLineEach }
 {}

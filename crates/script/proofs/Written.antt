@@ -3,7 +3,7 @@ use Rattle.std.proofs.Common.{◌≡◌, ℕ, ◌+◌, ◌<◌, ◌≤◌, Bool,
 use Rattle.std.specs.List.{position, position_or_len, before_first}
 use Rattle.std.proofs.lemmas.Option.{same_Some, none-some}
 use Rattle.std.proofs.lemmas.Bool.Decides.{nat_tests}
-use Rattle.std.proofs.lemmas.List.{take_all}
+use Rattle.std.proofs.lemmas.List.{take_all, take_rest}
 use Rattle.std.proofs.lemmas.List.Sums.{take_while-cons, split_at_first, passes_at_first}
 use Rattle.script.specs.Cuts.{lines_from, lines_of, kept, open_end, OneLine, CutsAsWritten, written}
 
@@ -54,3 +54,5 @@ uncut s e =
     let p = position_or_len is_lf s in
     let l : length s ≤ p = grind (arith, nat_tests, e) in
     last_one s (subst OneLine (take_all p s l) (first_line s))
+
+pub ruleset cuts = (as_written, cut_at, uncut, take_rest)

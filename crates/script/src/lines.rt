@@ -22,7 +22,7 @@ fn within_limit(line: &[u8]) -> Option<&[u8]>
 
 // The first line without its LF, or None in its place where it is too long or has no LF, and what stands after it.
 // None at the script's end.
-#[tactic(auto, using(crate::proofs::Written::as_written))]
+#[tactic(auto, using(crate::proofs::Written::cuts), unfolding(crate::specs::Cuts::lines_from))]
 pub fn cut(script: &[u8]) -> Option<(Option<&[u8]>, &[u8])>
     ensures line { MatchOption result (lines_of script.now ≡ []) (λ p. (lines_of script.now ≡ held p.0 ∷ lines_of p.1.now) × (length p.1.now < length script.now)) }
     ensures written { CutsAsWritten }
