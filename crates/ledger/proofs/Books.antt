@@ -84,7 +84,7 @@ replay_value t (b ∷ bs) a =
 -- ---- ledgers that read alike
 
 module _ {V C : Type 0} (v : ViewGhosts V) (c : ConditionGhosts C) where
-  pub same_stands : (k : Book) (a z : Ledger V C) → Stands v c k a → Unchanged v a z → Stands v c k z
+  pub same_stands : (k : Book) (a z : Ledger V C v) → Stands v c k a → Unchanged v a z → Stands v c k z
   same_stands k a z s e = record {
     started = e.started ∙ s.started;
     room = e.room ∙ s.room;
@@ -101,11 +101,11 @@ module _ {V C : Type 0} (v : ViewGhosts V) (c : ConditionGhosts C) where
   }
 
   -- a ledger that keeps a block finds its mark
-  pub mark_found : {X : Type 0} (k : Book) (a : Ledger V C) → Stands v c k a → (a.kept ≡ 0 → ⊥) → back (v.most a.view) (entries a.chain) (v.coins a.view) true ≡ None → X
-  mark_found k a s h e = unwinds_found k.terms k.blocks k.kept (entries a.chain) s.chain (λ z. h (s.kept ∙ z)) (ap (λ n. back n (entries a.chain) (coins_of k) true) (sym s.room) ∙ ap (λ m. back (v.most a.view) (entries a.chain) m true) (sym s.coins) ∙ e)
+  pub mark_found : {X : Type 0} (k : Book) (a : Ledger V C v) → Stands v c k a → (a.kept ≡ 0 → ⊥) → back (v.most a.state.view) (entries a.state.undo) (v.coins a.state.view) true ≡ None → X
+  mark_found k a s h e = unwinds_found k.terms k.blocks k.kept (entries a.state.undo) s.chain (λ z. h (s.kept ∙ z)) (ap (λ n. back n (entries a.state.undo) (coins_of k) true) (sym s.room) ∙ ap (λ m. back (v.most a.state.view) (entries a.state.undo) m true) (sym s.coins) ∙ e)
 
   -- fewer blocks are kept
-  pub settle_law : (k : Book) (a z : Ledger V C) (n : ℕ) → Stands v c k a → n < a.kept → z.started ≡ a.started → z.view ≡ a.view → z.condition ≡ a.condition → z.terms ≡ a.terms → z.tip ≡ a.tip → z.kept ≡ n → entries z.chain ≡ newest n (entries a.chain) → Stands v c (settled k n) z × (◌≡◌ {A = Result ℕ LedgerFault} (Ok n) (Ok (min n k.kept)))
+  pub settle_law : (k : Book) (a z : Ledger V C v) (n : ℕ) → Stands v c k a → n < a.kept → z.started ≡ a.started → z.state.view ≡ a.state.view → z.condition ≡ a.condition → z.terms ≡ a.terms → z.tip ≡ a.tip → z.kept ≡ n → entries z.state.undo ≡ newest n (entries a.state.undo) → Stands v c (settled k n) z × (◌≡◌ {A = Result ℕ LedgerFault} (Ok n) (Ok (min n k.kept)))
   settle_law k a z n s l zs zv zc zt zp zk ze =
       let less : min n k.kept ≡ n = omega (arith, s.kept, l) in (
         record {
@@ -120,7 +120,7 @@ module _ {V C : Type 0} (v : ViewGhosts V) (c : ConditionGhosts C) where
           height = ap (λ x. x.height) zp ∙ s.height;
           kept = zk ∙ sym less;
           accepted = s.accepted;
-          chain = subst (λ j. Unwinds k.terms k.blocks j (entries z.chain)) (sym less) (subst (Unwinds k.terms k.blocks n) (sym ze) (unwinds_newest k.terms k.blocks k.kept n (entries a.chain) (omega (arith, s.kept, l)) s.chain));
+          chain = subst (λ j. Unwinds k.terms k.blocks j (entries z.state.undo)) (sym less) (subst (Unwinds k.terms k.blocks n) (sym ze) (unwinds_newest k.terms k.blocks k.kept n (entries a.state.undo) (omega (arith, s.kept, l)) s.chain));
         },
         ap Ok (sym less),
       )

@@ -52,7 +52,7 @@ by_kept bs zero h e = (λ z. refl, λ z. absurd (z refl))
 by_kept bs (suc n) h e = (λ z. absurd (omega arith), λ z. ap (λ x. Ok (record { height = x; outcome = Clean })) (sym e))
 
 module _ {V C : Type 0} (v : ViewGhosts V) (c : ConditionGhosts C) where
-  book_laws : (b : Book) (bytes : List ℕ) (cs : List Call) (l : Ledger V C) → Stands v c b l → (ends_in_flush cs ≡ true → v.bottom l.view ≡ v.coins l.view) → BookLaws v c b bytes cs l
+  book_laws : (b : Book) (bytes : List ℕ) (cs : List Call) (l : Ledger V C v) → Stands v c b l → (ends_in_flush cs ≡ true → v.bottom l.state.view ≡ v.coins l.state.view) → BookLaws v c b bytes cs l
   book_laws b bytes cs l s f =
       let d = by_kept b.blocks b.kept l.tip.height s.height in
       record {
@@ -63,18 +63,18 @@ module _ {V C : Type 0} (v : ViewGhosts V) (c : ConditionGhosts C) where
         flushed = f;
       }
 
-  page_laws : (q : Page) (bytes : List ℕ) (cs : List Call) (l : Ledger V C) → At v c q l → (l.started ≡ true → ends_in_flush cs ≡ true → v.bottom l.view ≡ v.coins l.view) → (b : Book) → q ≡ standing b → BookLaws v c b bytes cs l
+  page_laws : (q : Page) (bytes : List ℕ) (cs : List Call) (l : Ledger V C v) → At v c q l → (l.started ≡ true → ends_in_flush cs ≡ true → v.bottom l.state.view ≡ v.coins l.state.view) → (b : Book) → q ≡ standing b → BookLaws v c b bytes cs l
   page_laws q bytes cs l s f b e = let t : Stands v c b l = subst (λ x. At v c x l) e s in book_laws b bytes cs l t (f t.started)
 
   -- a call that does what the page says follows the book
-  pub follows_book : (bytes : List ℕ) (x : Call) (r : Answer) (a z : Ledger V C) → ((p : Page) → At v c p a → At v c (page_after bytes x p) z × (r ≡ answer_on bytes x p)) → Follows v c a z r (book_after bytes x) (answer_of bytes x)
+  pub follows_book : (bytes : List ℕ) (x : Call) (r : Answer) (a z : Ledger V C v) → ((p : Page) → At v c p a → At v c (page_after bytes x p) z × (r ≡ answer_on bytes x p)) → Follows v c a z r (book_after bytes x) (answer_of bytes x)
   follows_book bytes x r a z law k s =
       let one = law (standing k) s in
       let same = page_book bytes x k in
       (subst (λ y. At v c y z) same.0 one.0, one.1 ∙ same.1)
 
   -- before any call
-  pub laws_none : (p : Page) (bytes : List ℕ) (l : Ledger V C) → At v c p l → PageLaws v c p bytes [] [] l
+  pub laws_none : (p : Page) (bytes : List ℕ) (l : Ledger V C v) → At v c p l → PageLaws v c p bytes [] [] l
   laws_none p bytes l s = record {
     page = s;
     answers = refl;
@@ -83,14 +83,14 @@ module _ {V C : Type 0} (v : ViewGhosts V) (c : ConditionGhosts C) where
   }
 
   -- of two ledgers on one page both are started or none
-  still_started : (q : Page) (a z : Ledger V C) → At v c q a → At v c q z → z.started ≡ true → a.started ≡ true
+  still_started : (q : Page) (a z : Ledger V C v) → At v c q a → At v c q z → z.started ≡ true → a.started ≡ true
   still_started (unstarted n o m) a z w y t = absurd (let s = y.started in let e : ◌≡◌ {A = ℕ} 0 1 = cc in omega arith)
   still_started (standing k) a z w y t = w.started
 
   -- one call more
-  pub laws_more : (p : Page) (bytes : List ℕ) (cs : List Call) (said : List Answer) (x : Call) (r : Answer) (a z : Ledger V C)
+  pub laws_more : (p : Page) (bytes : List ℕ) (cs : List Call) (said : List Answer) (x : Call) (r : Answer) (a z : Ledger V C v)
       → ((q : Page) → At v c q a → At v c (page_after bytes x q) z × (r ≡ answer_on bytes x q))
-      → (x ≡ call.Flush → a.started ≡ true → v.bottom z.view ≡ v.coins z.view)
+      → (x ≡ call.Flush → a.started ≡ true → v.bottom z.state.view ≡ v.coins z.state.view)
       → PageLaws v c p bytes cs said a → PageLaws v c p bytes (cs ++ (x ∷ [])) (said ++ (r ∷ [])) z
   laws_more p bytes cs said x r a z law flush h =
       let q = pages_after bytes cs p in
@@ -107,7 +107,7 @@ module _ {V C : Type 0} (v : ViewGhosts V) (c : ConditionGhosts C) where
       }
 
   -- one call more of a list
-  pub laws_next : (p : Page) (bytes : List ℕ) (cs : List Call) (said : List Answer) (i : ℕ) (d : Call) (r : Answer) (z : Ledger V C)
+  pub laws_next : (p : Page) (bytes : List ℕ) (cs : List Call) (said : List Answer) (i : ℕ) (d : Call) (r : Answer) (z : Ledger V C v)
       → i < length cs → i < length said
       → PageLaws v c p bytes (take i cs ++ (get_or cs i d ∷ [])) (take i said ++ (r ∷ [])) z
       → PageLaws v c p bytes (take (i + 1) cs) (take (i + 1) (set said i r)) z

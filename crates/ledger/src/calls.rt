@@ -24,16 +24,16 @@ use coins::outpoint::Outpoint;
 use coinsview::view::CoinsView;
 use connecting::block::{Site, Sums};
 use connecting::fault::BlockFault;
-use undo::{Record, Undo};
-use unwinding::{Unwound, unwind};
+use undo::Record;
+use unwinding::chainstate::Chainstate;
+use unwinding::unwind;
 use views::condition::SpendCondition;
 
 impl<V: CoinsView, C: SpendCondition> Ledger<V, C> {
     // A ledger that is not started yet.
     pub fn new(view: V, condition: C) -> Ledger<V, C>
         requires { V.CoinsView.ok view }
-        ensures ok { V.CoinsView.ok result.view }
-        ensures parts { (result.view ≡ view) × (result.condition ≡ condition) × (result.started ≡ false) }
+        ensures parts { (result.state.view ≡ view) × (result.condition ≡ condition) × (result.started ≡ false) }
         ensures page { At V.CoinsView C.SpendCondition (unstarted (V.CoinsView.most view) (C.SpendCondition.opens condition) (V.CoinsView.coins view)) result }
     {
         let terms = Terms {
@@ -46,9 +46,8 @@ impl<V: CoinsView, C: SpendCondition> Ledger<V, C> {
             height: 0,
         };
         Ledger {
-            view,
+            state: Chainstate::new(view),
             condition,
-            chain: Undo::new(),
             terms,
             tip,
             kept: 0,
@@ -64,11 +63,9 @@ impl<V: CoinsView, C: SpendCondition> Ledger<V, C> {
         last: u64,
         id: &[u8; 32],
     ) -> Result<(), LedgerFault>
-        requires { V.CoinsView.ok self.old.view }
-        ensures ok { V.CoinsView.ok self.new.view }
-        ensures answer { result ≡ start_answer self.old.started (in_range halving maturity last) (length (V.CoinsView.coins self.old.view)) }
+        ensures answer { result ≡ start_answer self.old.started (in_range halving maturity last) (length (V.CoinsView.coins self.old.state.view)) }
         ensures same { is_ok result ≡ false → self.new ≡ self.old }
-        ensures begins { is_ok result ≡ true → Stands V.CoinsView C.SpendCondition (fresh (start_terms (V.CoinsView.most self.old.view) (C.SpendCondition.opens self.old.condition) halving maturity last id.now)) self.new }
+        ensures begins { is_ok result ≡ true → Stands V.CoinsView C.SpendCondition (fresh (start_terms (V.CoinsView.most self.old.state.view) (C.SpendCondition.opens self.old.condition) halving maturity last id.now)) self.new }
     {
         if self.started {
             return Err(LedgerFault::Started);
@@ -76,11 +73,11 @@ impl<V: CoinsView, C: SpendCondition> Ledger<V, C> {
         let Some(terms) = Terms::new(halving, maturity, last) else {
             return Err(LedgerFault::Parameter);
         };
-        if self.view.count() > 0 {
+        if self.state.view.count() > 0 {
             return Err(LedgerFault::NotEmpty);
         }
         self.terms = terms;
-        self.chain.keep(0);
+        self.state.undo.keep(0);
         self.kept = 0;
         self.tip = Tip { id: *id, height: 0 };
         self.started = true;
@@ -89,14 +86,12 @@ impl<V: CoinsView, C: SpendCondition> Ledger<V, C> {
 
     // Connects a block to the tip, or says why not.
     fn connect_block(&mut self, bytes: &[u8]) -> Result<Connected, BlockFault>
-        requires { V.CoinsView.ok self.old.view }
-        ensures ok { V.CoinsView.ok self.new.view }
         ensures law { Follows V.CoinsView C.SpendCondition self.old self.new result (λ k. connected k bytes.now) (λ k. told k (connect_bytes k bytes.now)) }
         ensures same { is_ok result ≡ false → Unchanged V.CoinsView self.old self.new }
     {
         let block = Block::read(bytes)?;
         let needed = check_block(&block, &self.tip.id, self.tip.height, self.terms.last)?;
-        if needed > self.chain.free() {
+        if needed > self.state.undo.free() {
             return Err(BlockFault::LogFull);
         }
         let height = self.tip.height + 1;
@@ -105,13 +100,7 @@ impl<V: CoinsView, C: SpendCondition> Ledger<V, C> {
             maturity: self.terms.maturity,
             halving: self.terms.halving,
         };
-        let sums = apply(
-            &mut self.view,
-            &self.condition,
-            &mut self.chain,
-            &block,
-            site,
-        )?;
+        let sums = apply(&mut self.state, &self.condition, &block, site)?;
         let id = *block.id();
         self.tip = Tip { id, height };
         self.kept += 1;
@@ -126,8 +115,6 @@ impl<V: CoinsView, C: SpendCondition> Ledger<V, C> {
 
     // Connects the block that the bytes are.
     pub fn connect(&mut self, bytes: &[u8]) -> Result<Connected, LedgerFault>
-        requires { V.CoinsView.ok self.old.view }
-        ensures ok { V.CoinsView.ok self.new.view }
         ensures early { self.old.started ≡ false → (result ≡ Err LedgerFault.NotStarted) × (self.new ≡ self.old) }
         ensures law { Follows V.CoinsView C.SpendCondition self.old self.new result (λ k. connected k bytes.now) (λ k. connect_answer k bytes.now) }
         ensures same { is_ok result ≡ false → Unchanged V.CoinsView self.old self.new }
@@ -140,8 +127,6 @@ impl<V: CoinsView, C: SpendCondition> Ledger<V, C> {
 
     // Takes the last block back, by its undo entries.
     pub fn disconnect(&mut self) -> Result<Disconnected, LedgerFault>
-        requires { V.CoinsView.ok self.old.view }
-        ensures ok { V.CoinsView.ok self.new.view }
         ensures early { self.old.started ≡ false → (result ≡ Err LedgerFault.NotStarted) × (self.new ≡ self.old) }
         ensures law { Follows V.CoinsView C.SpendCondition self.old self.new result disconnected disconnect_answer }
         ensures same { (k : Book) → Stands V.CoinsView C.SpendCondition k self.old → is_ok result ≡ false → Unchanged V.CoinsView self.old self.new }
@@ -152,7 +137,7 @@ impl<V: CoinsView, C: SpendCondition> Ledger<V, C> {
         if self.kept == 0 {
             return Err(LedgerFault::Nothing);
         }
-        let Some(unwound) = unwind(&mut self.view, &mut self.chain) else {
+        let Some(unwound) = unwind(&mut self.state.view, &mut self.state.undo) else {
             return Err(LedgerFault::Nothing);
         };
         let height = self.tip.height;
@@ -170,8 +155,6 @@ impl<V: CoinsView, C: SpendCondition> Ledger<V, C> {
 
     // Keeps the undo entries of the newest n blocks, frees the others, and answers how many blocks are kept.
     pub fn settle(&mut self, n: u64) -> Result<u64, LedgerFault>
-        requires { V.CoinsView.ok self.old.view }
-        ensures ok { V.CoinsView.ok self.new.view }
         ensures early { self.old.started ≡ false → (result ≡ Err LedgerFault.NotStarted) × (self.new ≡ self.old) }
         ensures law { Follows V.CoinsView C.SpendCondition self.old self.new result (λ k. settled k n) (λ k. Ok (min n k.kept)) }
     {
@@ -182,24 +165,22 @@ impl<V: CoinsView, C: SpendCondition> Ledger<V, C> {
         if kept <= n {
             return Ok(kept);
         }
-        self.chain.keep(n as usize);
+        self.state.undo.keep(n as usize);
         self.kept = n as u32;
         Ok(n)
     }
 
     // Makes the base at the foot hold the coins.
     pub fn flush(&mut self) -> Result<(), LedgerFault>
-        requires { V.CoinsView.ok self.old.view }
-        ensures ok { V.CoinsView.ok self.new.view }
         ensures early { self.old.started ≡ false → (result ≡ Err LedgerFault.NotStarted) × (self.new ≡ self.old) }
         ensures law { Follows V.CoinsView C.SpendCondition self.old self.new result (λ k. k) (λ _. Ok tt) }
         ensures same { Unchanged V.CoinsView self.old self.new }
-        ensures bottom { self.old.started ≡ true → V.CoinsView.bottom self.new.view ≡ V.CoinsView.coins self.new.view }
+        ensures bottom { self.old.started ≡ true → V.CoinsView.bottom self.new.state.view ≡ V.CoinsView.coins self.new.state.view }
     {
         if !self.started {
             return Err(LedgerFault::NotStarted);
         }
-        self.view.flush();
+        self.state.view.flush();
         Ok(())
     }
 
@@ -216,8 +197,6 @@ impl<V: CoinsView, C: SpendCondition> Ledger<V, C> {
 
     // The coin at an outpoint.
     pub fn look(&mut self, at: &Outpoint) -> Result<Option<Coin>, LedgerFault>
-        requires { V.CoinsView.ok self.old.view }
-        ensures ok { V.CoinsView.ok self.new.view }
         ensures early { self.old.started ≡ false → (result ≡ Err LedgerFault.NotStarted) × (self.new ≡ self.old) }
         ensures law { Follows V.CoinsView C.SpendCondition self.old self.new result (λ k. k) (λ k. Ok (coin_at at.now (coins_of k))) }
         ensures same { Unchanged V.CoinsView self.old self.new }
@@ -225,13 +204,11 @@ impl<V: CoinsView, C: SpendCondition> Ledger<V, C> {
         if !self.started {
             return Err(LedgerFault::NotStarted);
         }
-        Ok(self.view.look(at))
+        Ok(self.state.view.look(at))
     }
 
     // How many coins a lock has, and what they are worth.
     pub fn balance(&mut self, lock: &Lock) -> Result<Balance, LedgerFault>
-        requires { V.CoinsView.ok self.old.view }
-        ensures ok { V.CoinsView.ok self.new.view }
         ensures early { self.old.started ≡ false → (result ≡ Err LedgerFault.NotStarted) × (self.new ≡ self.old) }
         ensures law { Follows V.CoinsView C.SpendCondition self.old self.new result (λ k. k) (λ k. Ok (held_by lock.now (coins_of k))) }
         ensures same { Unchanged V.CoinsView self.old self.new }
@@ -239,13 +216,11 @@ impl<V: CoinsView, C: SpendCondition> Ledger<V, C> {
         if !self.started {
             return Err(LedgerFault::NotStarted);
         }
-        Ok(balance_of(&mut self.view, lock))
+        Ok(balance_of(&mut self.state.view, lock))
     }
 
     // The least outpoint above the given one, or of all, with its coin.
     pub fn next(&mut self, from: Option<&Outpoint>) -> Result<Option<(Outpoint, Coin)>, LedgerFault>
-        requires { V.CoinsView.ok self.old.view }
-        ensures ok { V.CoinsView.ok self.new.view }
         ensures early { self.old.started ≡ false → (result ≡ Err LedgerFault.NotStarted) × (self.new ≡ self.old) }
         ensures law { Follows V.CoinsView C.SpendCondition self.old self.new result (λ k. k) (λ k. Ok (next_in (option_map (λ x. x.now) from.entry) (coins_of k))) }
         ensures same { Unchanged V.CoinsView self.old self.new }
@@ -253,33 +228,30 @@ impl<V: CoinsView, C: SpendCondition> Ledger<V, C> {
         if !self.started {
             return Err(LedgerFault::NotStarted);
         }
-        Ok(self.view.next(from))
+        Ok(self.state.view.next(from))
     }
 }
 
 // Applies a block that has passed its checks, or leaves the coins and the undo entries as they read before.
 fn apply<V: CoinsView, C: SpendCondition>(
-    view: &mut V,
+    state: &mut Chainstate<V>,
     condition: &C,
-    chain: &mut Undo,
     block: &Block<'_>,
     site: Site,
 ) -> Result<Sums, BlockFault>
-    requires well { V.CoinsView.ok view.old }
     requires good { BlockGood block.now }
     requires money { All Moneyed (block_of block.now).transactions }
-    requires room { length (entries chain.old) + needsOf (block_of block.now) ≤ 512 }
-    ensures well { V.CoinsView.ok view.new }
-    ensures fixed { V.CoinsView.most view.new ≡ V.CoinsView.most view.old }
-    ensures value { MatchResult result (λ a. effect (setting (V.CoinsView.most view.old) (C.SpendCondition.opens condition.now) site) site.height (block_of block.now).transactions (V.CoinsView.coins view.old) ≡ Ok (V.CoinsView.coins view.new, a)) (λ f. (effect (setting (V.CoinsView.most view.old) (C.SpendCondition.opens condition.now) site) site.height (block_of block.now).transactions (V.CoinsView.coins view.old) ≡ Err f) × (V.CoinsView.coins view.new ≡ V.CoinsView.coins view.old) × (entries chain.new ≡ entries chain.old)) }
-    ensures kept { OnOk result ((back (V.CoinsView.most view.old) (entries chain.new) (V.CoinsView.coins view.new) true ≡ Some (record { previous = (block_of block.now).previous; below = entries chain.old; coins = V.CoinsView.coins view.old; clean = true })) × (length (entries chain.new) ≡ needsOf (block_of block.now) + length (entries chain.old))) }
+    requires room { length (entries state.old.undo) + needsOf (block_of block.now) ≤ 512 }
+    ensures fixed { V.CoinsView.most state.new.view ≡ V.CoinsView.most state.old.view }
+    ensures value { MatchResult result (λ a. effect (setting (V.CoinsView.most state.old.view) (C.SpendCondition.opens condition.now) site) site.height (block_of block.now).transactions (V.CoinsView.coins state.old.view) ≡ Ok (V.CoinsView.coins state.new.view, a)) (λ f. (effect (setting (V.CoinsView.most state.old.view) (C.SpendCondition.opens condition.now) site) site.height (block_of block.now).transactions (V.CoinsView.coins state.old.view) ≡ Err f) × (V.CoinsView.coins state.new.view ≡ V.CoinsView.coins state.old.view) × (entries state.new.undo ≡ entries state.old.undo)) }
+    ensures kept { OnOk result ((back (V.CoinsView.most state.old.view) (entries state.new.undo) (V.CoinsView.coins state.new.view) true ≡ Some (record { previous = (block_of block.now).previous; below = entries state.old.undo; coins = V.CoinsView.coins state.old.view; clean = true })) × (length (entries state.new.undo) ≡ needsOf (block_of block.now) + length (entries state.old.undo))) }
 {
     let previous = *block.previous();
     // The room for the mark was tested.
-    let _ = chain.push(Record::Mark(previous));
-    let applied = apply_block(view, condition, chain, block, site);
+    let _ = state.undo.push(Record::Mark(previous));
+    let applied = apply_block(&mut state.view, condition, &mut state.undo, block, site);
     if applied.is_err() {
-        let _ = unwind(view, chain);
+        let _ = unwind(&mut state.view, &mut state.undo);
     }
     applied
 }

@@ -10,7 +10,8 @@ pub mod runs;
 pub mod terms;
 
 use crate::terms::Terms;
-use undo::Undo;
+use coinsview::view::CoinsView;
+use unwinding::chainstate::Chainstate;
 
 // The last connected block, or the start: its identifier and height.
 #[derive(Clone, Copy, PartialEq, Eq, Debug)]
@@ -51,10 +52,9 @@ pub struct Balance {
 }
 
 #[derive(Drop)]
-pub struct Ledger<V, C> {
-    view: V,
+pub struct Ledger<V: CoinsView, C> {
+    state: Chainstate<V>,
     condition: C,
-    chain: Undo,
     terms: Terms,
     tip: Tip,
     kept: u32,

@@ -8,7 +8,6 @@ returns-in_default g c =
     let a = c.args.self.now in
     let e = c.in_default.ensures in
     record {
-      ok = e.well;
       early = λ h. clash _ c.if-not-self.false h;
       law = λ k s. mark_found v o k a s c.if-self-eq0.false e.value.0;
       same = λ k s h. mark_found v o k a s c.if-self-eq0.false e.value.0;

@@ -10,7 +10,7 @@ loop-done-init g c =
     let o = g.C.SpendCondition in
     let bytes = c.args.bytes.now in
     let a = c.args.self.now in
-    (c.requires, omega arith, omega arith, λ k s. runs_none v o k bytes c.args.calls.now c.args.answers.now a s, λ p s. laws_none v o p bytes a s)
+    (omega arith, omega arith, λ k s. runs_none v o k bytes c.args.calls.now c.args.answers.now a s, λ p s. laws_none v o p bytes a s)
 
 pub loop-done-preserved : goal.loop-done-preserved
 loop-done-preserved g c =
@@ -26,35 +26,32 @@ loop-done-preserved g c =
     let long = length-set said i r in
     let a = c.loop-done-test.true in
     let b = c.if-done-answers.true in (
-      e.ok,
       omega arith,
       omega arith,
-      λ k s. runs_more v o k bytes calls said i _ r c.loop-done.self z a b (c.loop-done.invariant.3 k s) e.law e.bottom,
-      λ p s. laws_next v o p bytes calls said i _ r z a b (e.page_laws p _ _ (c.loop-done.invariant.4 p s)),
+      λ k s. runs_more v o k bytes calls said i _ r c.loop-done.self z a b (c.loop-done.invariant.2 k s) e.law e.bottom,
+      λ p s. laws_next v o p bytes calls said i _ r z a b (e.page_laws p _ _ (c.loop-done.invariant.3 p s)),
     )
 
 pub returns-else-done-answers : goal.returns-else-done-answers
 returns-else-done-answers g c =
     let a = c.loop-done-test.true in
     let b = c.if-done-answers.false in
-    let d = c.loop-done.invariant.2 in
+    let d = c.loop-done.invariant.1 in
     let e = c.loop-done.auto.answers in
     record {
-      ok = c.loop-done.invariant.0;
       count = omega arith;
-      laws = λ k s. runs_laws g.V.CoinsView g.C.SpendCondition k c.args.bytes.now _ _ c.loop-done.self (c.loop-done.invariant.3 k s);
-      page_laws = c.loop-done.invariant.4;
+      laws = λ k s. runs_laws g.V.CoinsView g.C.SpendCondition k c.args.bytes.now _ _ c.loop-done.self (c.loop-done.invariant.2 k s);
+      page_laws = c.loop-done.invariant.3;
     }
 
 pub returns-after-loop-done : goal.returns-after-loop-done
 returns-after-loop-done g c =
     let a = c.loop-done-test.false in
-    let b = c.loop-done.invariant.1 in
-    let d = c.loop-done.invariant.2 in
+    let b = c.loop-done.invariant.0 in
+    let d = c.loop-done.invariant.1 in
     let e = c.loop-done.auto.answers in
     record {
-      ok = c.loop-done.invariant.0;
       count = omega arith;
-      laws = λ k s. runs_laws g.V.CoinsView g.C.SpendCondition k c.args.bytes.now _ _ c.loop-done.self (c.loop-done.invariant.3 k s);
-      page_laws = c.loop-done.invariant.4;
+      laws = λ k s. runs_laws g.V.CoinsView g.C.SpendCondition k c.args.bytes.now _ _ c.loop-done.self (c.loop-done.invariant.2 k s);
+      page_laws = c.loop-done.invariant.3;
     }

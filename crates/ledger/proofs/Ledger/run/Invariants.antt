@@ -10,7 +10,7 @@ abbrev pub invariant-loop-done : goal.invariant-loop-done
 invariant-loop-done g l =
     let v = g.V.CoinsView in
     let c = g.C.SpendCondition in
-    v.ok l.self.view × (l.done ≤ length l.calls) × (l.done ≤ length l.answers) × ((k : Book) → Stands v c k l.initial.self → Runs v c k l.bytes (take l.done l.calls) (take l.done l.answers) l.self) × ((p : Page) → At v c p l.initial.self → PageLaws v c p l.bytes (take l.done l.calls) (take l.done l.answers) l.self)
+    (l.done ≤ length l.calls) × (l.done ≤ length l.answers) × ((k : Book) → Stands v c k l.initial.self → Runs v c k l.bytes (take l.done l.calls) (take l.done l.answers) l.self) × ((p : Page) → At v c p l.initial.self → PageLaws v c p l.bytes (take l.done l.calls) (take l.done l.answers) l.self)
 
 abbrev pub decreases-loop-done : goal.decreases-loop-done
 decreases-loop-done g l = length l.calls - l.done

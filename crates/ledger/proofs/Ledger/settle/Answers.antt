@@ -4,7 +4,6 @@ use Rattle.ledger.proofs.Ledger.settle.Goals as goal
 
 pub returns : goal.returns
 returns g c = record {
-  ok = c.requires;
   early = λ h. clash _ c.if-not-self.false h;
   law = λ k s. settle_law g.V.CoinsView g.C.SpendCondition k c.args.self.now _ c.args.n s (omega arith) refl refl refl refl refl refl c.keep.ensures;
 }

@@ -12,10 +12,9 @@ returns g c =
     let v = g.V.CoinsView in
     let a = c.args.self.now in
     let t = c.in-Some.ensures in
-    let empty : v.coins a.view ≡ [] = none _ (omega (arith, c.count.ensures, c.if-count-gt0.false)) in
+    let empty : v.coins a.state.view ≡ [] = none _ (omega (arith, c.count.ensures, c.if-count-gt0.false)) in
     record {
-      ok = c.requires;
-      answer = sym (ap (λ x. start_answer x (in_range c.args.halving c.args.maturity c.args.last) (length (v.coins a.view))) c.if-self.false ∙ ap (λ x. start_answer false x (length (v.coins a.view))) t.0 ∙ ap (λ x. start_answer false true (length x)) empty);
+      answer = sym (ap (λ x. start_answer x (in_range c.args.halving c.args.maturity c.args.last) (length (v.coins a.state.view))) c.if-self.false ∙ ap (λ x. start_answer false x (length (v.coins a.state.view))) t.0 ∙ ap (λ x. start_answer false true (length x)) empty);
       same = λ h. clash true refl h;
       begins = λ h. record {
         started = refl;
