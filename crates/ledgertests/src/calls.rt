@@ -61,8 +61,6 @@ fn connect<V: CoinsView, C: SpendCondition>(
     blocks: &[Vec<u8>],
     at: usize,
 ) -> Result<Answer, LedgerFault>
-    requires { V.CoinsView.ok ledger.old.view }
-    ensures { V.CoinsView.ok ledger.new.view }
 {
     let answer = match blocks.get(at) {
         Some(block) => ledger.connect(block.as_slice())?,
@@ -81,8 +79,6 @@ fn next_above<V: CoinsView, C: SpendCondition>(
     ledger: &mut Ledger<V, C>,
     from: Option<Outpoint>,
 ) -> Result<Answer, LedgerFault>
-    requires { V.CoinsView.ok ledger.old.view }
-    ensures { V.CoinsView.ok ledger.new.view }
 {
     Ok(found(ledger.next(from.as_ref())?))
 }
@@ -92,8 +88,6 @@ fn ask<V: CoinsView, C: SpendCondition>(
     ledger: &mut Ledger<V, C>,
     call: Call,
 ) -> Result<Answer, LedgerFault>
-    requires { V.CoinsView.ok ledger.old.view }
-    ensures { V.CoinsView.ok ledger.new.view }
 {
     match call {
         Call::Look(tx, index) => match ledger.look(&outpoint(tx, index))? {
@@ -118,8 +112,6 @@ fn try_call<V: CoinsView, C: SpendCondition>(
     blocks: &[Vec<u8>],
     call: Call,
 ) -> Result<Answer, LedgerFault>
-    requires { V.CoinsView.ok ledger.old.view }
-    ensures { V.CoinsView.ok ledger.new.view }
 {
     match call {
         Call::Start(halving, maturity, last) => {
@@ -147,8 +139,6 @@ pub fn perform<V: CoinsView, C: SpendCondition>(
     blocks: &[Vec<u8>],
     call: Call,
 ) -> Answer
-    requires { V.CoinsView.ok ledger.old.view }
-    ensures { V.CoinsView.ok ledger.new.view }
 {
     match try_call(ledger, blocks, call) {
         Ok(answer) => answer,

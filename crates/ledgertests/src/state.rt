@@ -43,8 +43,6 @@ fn coins_of<V: CoinsView, C: SpendCondition>(
     heap: Global,
     ledger: &mut Ledger<V, C>,
 ) -> Result<Vec<(Outpoint, Coin)>, AllocError>
-    requires { V.CoinsView.ok ledger.old.view }
-    ensures { V.CoinsView.ok ledger.new.view }
 {
     let mut coins = Vec::new(heap);
     let mut last = None;
@@ -66,8 +64,6 @@ pub fn state_of<V: CoinsView, C: SpendCondition>(
     heap: Global,
     ledger: &mut Ledger<V, C>,
 ) -> Result<State, AllocError>
-    requires { V.CoinsView.ok ledger.old.view }
-    ensures { V.CoinsView.ok ledger.new.view }
 {
     let coins = coins_of(heap, ledger)?;
     Ok(State {

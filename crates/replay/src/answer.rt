@@ -103,8 +103,6 @@ fn start<V: CoinsView, C: SpendCondition>(
     maturity: u64,
     last: u64,
 ) -> Line
-    requires { V.CoinsView.ok ledger.old.view }
-    ensures ok { V.CoinsView.ok ledger.new.view }
     ensures page { PageTurn V.CoinsView C.SpendCondition blocks.now (StartCall halving maturity last start_id ∷ []) (λ q. start_line (start_on q halving maturity last)) result ledger.old ledger.new }
 {
     let call = Call::Start {
@@ -126,8 +124,6 @@ fn connect<V: CoinsView, C: SpendCondition>(
     from: usize,
     to: usize,
 ) -> Line
-    requires { V.CoinsView.ok ledger.old.view }
-    ensures ok { V.CoinsView.ok ledger.new.view }
     ensures page { PageTurn V.CoinsView C.SpendCondition blocks.now (ConnectCall from to ∷ []) (λ q. connect_line (from_book (λ k. connect_answer k (part_of from to blocks.now)) q)) result ledger.old ledger.new }
 {
     let call = Call::Connect { from, to };
@@ -139,8 +135,6 @@ fn connect<V: CoinsView, C: SpendCondition>(
 
 // Takes the last block back.
 fn disconnect<V: CoinsView, C: SpendCondition>(ledger: &mut Ledger<V, C>, blocks: &[u8]) -> Line
-    requires { V.CoinsView.ok ledger.old.view }
-    ensures ok { V.CoinsView.ok ledger.new.view }
     ensures page { PageTurn V.CoinsView C.SpendCondition blocks.now (DisconnectCall ∷ []) (λ q. disconnect_line (from_book disconnect_answer q)) result ledger.old ledger.new }
 {
     let call = Call::Disconnect;
@@ -156,8 +150,6 @@ fn balance<V: CoinsView, C: SpendCondition>(
     blocks: &[u8],
     lock: Lock,
 ) -> Line
-    requires { V.CoinsView.ok ledger.old.view }
-    ensures ok { V.CoinsView.ok ledger.new.view }
     ensures page { PageTurn V.CoinsView C.SpendCondition blocks.now (BalanceCall lock ∷ []) (λ q. balance_line lock (from_book (λ b. Ok (held_by lock (coins_of b))) q)) result ledger.old ledger.new }
 {
     let call = Call::Balance(lock);
@@ -172,8 +164,6 @@ fn connect_next<V: CoinsView, C: SpendCondition>(
     ledger: &mut Ledger<V, C>,
     file: &mut FileReader<'_>,
 ) -> Line
-    requires { V.CoinsView.ok ledger.old.view }
-    ensures ok { V.CoinsView.ok ledger.new.view }
     ensures file { file.new.file.now ≡ file.old.file.now }
     ensures turn { Moved file.old.file.now file.old.place file.new.place ledger.old ledger.new result Command.Connect }
     ensures page { PageTurn V.CoinsView C.SpendCondition file.old.file.now (calls_for file.old.file.now file.old.place Command.Connect) (line_for file.old.file.now file.old.place Command.Connect) result ledger.old ledger.new }
@@ -192,8 +182,6 @@ fn perform<V: CoinsView, C: SpendCondition>(
     file: &mut FileReader<'_>,
     command: Command,
 ) -> Line
-    requires { V.CoinsView.ok ledger.old.view }
-    ensures ok { V.CoinsView.ok ledger.new.view }
     ensures file { file.new.file.now ≡ file.old.file.now }
     ensures turn { Moved file.old.file.now file.old.place file.new.place ledger.old ledger.new result command }
     ensures page { PageTurn V.CoinsView C.SpendCondition file.old.file.now (calls_for file.old.file.now file.old.place command) (line_for file.old.file.now file.old.place command) result ledger.old ledger.new }
@@ -228,8 +216,6 @@ pub fn answer_line<V: CoinsView, C: SpendCondition>(
     number: u64,
     line: Option<&[u8]>,
 ) -> Line
-    requires { V.CoinsView.ok ledger.old.view }
-    ensures ok { V.CoinsView.ok ledger.new.view }
     ensures file { file.new.file.now ≡ file.old.file.now }
     ensures turn { Turn file.old.file.now number file.old.place file.new.place ledger.old ledger.new result (parsed (held line.entry)) }
     ensures place { file.new.place ≡ turn_place file.old.file.now file.old.place (parsed (held line.entry)) }
