@@ -9,26 +9,24 @@ use Rattle.ledger.specs.declared.Tip.{Tip}
 use Rattle.ledger.specs.declared.fault.LedgerFault.{LedgerFault}
 use Rattle.ledger.specs.declared.fault.LedgerFault.TheVariants.{NotStarted}
 use Rattle.ledger.specs.Book.{Terms, Book, fresh, tip_of}
+use Rattle.ledger.proofs.Books.{stands_started}
 use Rattle.ledger.specs.Starting.{in_range, start_answer, start_terms}
-use Rattle.ledger.specs.Standing.{Stands, Follows, Unchanged}
+use Rattle.ledger.specs.Standing.{started, Stands, Follows, Unchanged}
 use Rattle.ledger.specs.Pages.{Opens, Page, unstarted, standing, Waits, At, book_by, from_book, start_on, begun, begun_by}
 
 pub unchanged : {V C : Type 0} (v : ViewGhosts V) (a z : Ledger V C v) → z ≡ a → Unchanged v a z
 unchanged v a z e = record {
-  started = ap (λ l. l.started) e;
   room = ap (λ l. v.most l.state.view) e;
   condition = ap (λ l. l.condition) e;
-  terms = ap (λ l. l.terms) e;
   coins = ap (λ l. v.coins l.state.view) e;
-  tip = ap (λ l. l.tip) e;
-  kept = ap (λ l. l.kept) e;
-  chain = ap (λ l. entries l.state.undo) e;
+  active = ap (λ l. l.active) e;
+  undo = ap (λ l. entries l.state.undo) e;
 }
 
 module _ {V C : Type 0} (v : ViewGhosts V) (c : ConditionGhosts C) where
   -- before the start the call is refused and nothing changes
   abbrev pub Early : {X : Type 0} → Ledger V C v → Ledger V C v → Result X LedgerFault → Type 0
-  Early a z r = a.started ≡ false → (r ≡ Err NotStarted) × (z ≡ a)
+  Early a z r = started a ≡ false → (r ≡ Err NotStarted) × (z ≡ a)
 
   -- a call that follows the book once it is started
   pub on_page : {X : Type 0} (a z : Ledger V C v) (r : Result X LedgerFault) (f : Book → Book) (g : Book → Result X LedgerFault) → Early a z r → Follows v c a z r f g → (p : Page) → At v c p a → At v c (book_by f p) z × (r ≡ from_book g p)
@@ -40,7 +38,7 @@ module _ {V C : Type 0} (v : ViewGhosts V) (c : ConditionGhosts C) where
   on_same_page a z r g early law (unstarted n o m) w = let e = early w.started in (subst (Waits v c n o m) (sym e.1) w, e.0)
   on_same_page a z r g early law (standing k) s = law k s
 
-  pub tip_on_page : (a : Ledger V C v) (r : Result Tip LedgerFault) → (a.started ≡ false → r ≡ Err NotStarted) → ((k : Book) → Stands v c k a → r ≡ Ok (tip_of k)) → (p : Page) → At v c p a → At v c p a × (r ≡ from_book (λ k. Ok (tip_of k)) p)
+  pub tip_on_page : (a : Ledger V C v) (r : Result Tip LedgerFault) → (started a ≡ false → r ≡ Err NotStarted) → ((k : Book) → Stands v c k a → r ≡ Ok (tip_of k)) → (p : Page) → At v c p a → At v c p a × (r ≡ from_book (λ k. Ok (tip_of k)) p)
   tip_on_page a r early law (unstarted n o m) w = (w, early w.started)
   tip_on_page a r early law (standing k) s = (s, law k s)
 
@@ -56,7 +54,7 @@ module _ {V C : Type 0} (v : ViewGhosts V) (c : ConditionGhosts C) where
   begins n o m t a z (Err f) w same start = subst (Waits v c n o m) (sym (same refl)) w
 
   pub start_on_page : (h x l : ℕ) (id : List ℕ) (a z : Ledger V C v) (r : Result Unit LedgerFault)
-      → r ≡ start_answer a.started (in_range h x l) (length (v.coins a.state.view))
+      → r ≡ start_answer (started a) (in_range h x l) (length (v.coins a.state.view))
       → (is_ok r ≡ false → z ≡ a)
       → (is_ok r ≡ true → Stands v c (fresh (start_terms (v.most a.state.view) (c.opens a.condition) h x l id)) z)
       → (p : Page) → At v c p a → At v c (begun p h x l id) z × (r ≡ start_on p h x l)
@@ -65,5 +63,5 @@ module _ {V C : Type 0} (v : ViewGhosts V) (c : ConditionGhosts C) where
       let terms : start_terms (v.most a.state.view) (c.opens a.condition) h x l id ≡ start_terms n o h x l id = ap (λ k. start_terms k (c.opens a.condition) h x l id) w.room ∙ ap (λ k. start_terms n k h x l id) w.opens in
       (subst (λ q. At v c (begun_by q (unstarted n o m) (start_terms n o h x l id)) z) is (begins n o m (start_terms n o h x l id) a z r w same (λ y. subst (λ t. Stands v c (fresh t) z) terms (start y))), is)
   start_on_page h x l id a z r e same start (standing k) s =
-      let is : r ≡ start_on (standing k) h x l = e ∙ ap (λ b. start_answer b (in_range h x l) (length (v.coins a.state.view))) s.started in
+      let is : r ≡ start_on (standing k) h x l = e ∙ ap (λ b. start_answer b (in_range h x l) (length (v.coins a.state.view))) (stands_started v c k a s) in
       (subst (Stands v c k) (sym (same (ap is_ok is))) s, is)

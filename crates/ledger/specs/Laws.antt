@@ -1,5 +1,5 @@
 -- The laws over runs: what holds of a ledger after any list of calls, by the book that was fed the same calls.
-use Rattle.std.specs.Prelude.{◌≡◌, ℕ, ◌+◌, Bool, true, false, List, [], ◌∷◌, Ok, Err, ◌≢◌}
+use Rattle.std.specs.Prelude.{◌≡◌, ℕ, ◌+◌, Bool, true, false, List, [], ◌∷◌, IsSomeAnd, Ok, Err, ◌≢◌}
 use Rattle.coinsview.specs.declared.view.CoinsView.{Ghosts as ViewGhosts}
 use Rattle.views.specs.declared.condition.SpendCondition.{Ghosts as ConditionGhosts}
 use Rattle.connecting.specs.Value.{value_in}
@@ -41,6 +41,6 @@ pub record Laws {V C : Type 0} (v : ViewGhosts V) (c : ConditionGhosts C) (k : B
   pub values : value_in (v.coins l.state.view) + all_burned (books_after bytes cs k).terms (books_after bytes cs k).blocks ≡ all_subsidies (books_after bytes cs k).terms (books_after bytes cs k).blocks
   -- a disconnect then is refused where none is kept, and else answers the tip's height and clean
   pub refused : (books_after bytes cs k).kept ≡ 0 → disconnect_answer (books_after bytes cs k) ≡ Err Nothing
-  pub granted : ((books_after bytes cs k).kept ≢ 0) → disconnect_answer (books_after bytes cs k) ≡ Ok (record { height = l.tip.height; outcome = Clean })
+  pub granted : ((books_after bytes cs k).kept ≢ 0) → IsSomeAnd l.active (λ h. disconnect_answer (books_after bytes cs k) ≡ Ok (record { height = h.tip.height; outcome = Clean }))
   -- if the last call was a flush, the bottom map holds exactly these coins
   pub flushed : ends_in_flush cs ≡ true → v.bottom l.state.view ≡ v.coins l.state.view

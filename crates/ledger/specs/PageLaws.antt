@@ -1,5 +1,5 @@
 -- The laws over runs, of a ledger on any page: before the start and after it.
-use Rattle.std.specs.Prelude.{◌≡◌, ℕ, ◌+◌, true, false, List, Ok, Err, Result, ◌≢◌}
+use Rattle.std.specs.Prelude.{◌≡◌, ℕ, ◌+◌, true, false, List, IsSomeAnd, Ok, Err, Result, ◌≢◌}
 use Rattle.coinsview.specs.declared.view.CoinsView.{Ghosts as ViewGhosts}
 use Rattle.views.specs.declared.condition.SpendCondition.{Ghosts as ConditionGhosts}
 use Rattle.connecting.specs.Value.{value_in}
@@ -34,7 +34,7 @@ pub record BookLaws {V C : Type 0} (v : ViewGhosts V) (c : ConditionGhosts C) (b
   pub values : value_in (v.coins l.state.view) + all_burned b.terms b.blocks ≡ all_subsidies b.terms b.blocks
   -- a disconnect made then is refused where no block is kept, and else answers the tip's height and clean
   pub refused : b.kept ≡ 0 → answer_on bytes call.Disconnect (standing b) ≡ answer.Disconnect (Err Nothing)
-  pub granted : (b.kept ≢ 0) → answer_on bytes call.Disconnect (standing b) ≡ answer.Disconnect (Ok (record { height = l.tip.height; outcome = Clean }))
+  pub granted : (b.kept ≢ 0) → IsSomeAnd l.active (λ h. answer_on bytes call.Disconnect (standing b) ≡ answer.Disconnect (Ok (record { height = h.tip.height; outcome = Clean })))
   -- if the last call was a flush, the bottom map holds exactly these coins
   pub flushed : ends_in_flush cs ≡ true → v.bottom l.state.view ≡ v.coins l.state.view
 

@@ -16,7 +16,7 @@ use Rattle.ledger.specs.declared.runs.Answer.TheVariants as answer
 use Rattle.ledger.specs.Book.{Terms, Book, fresh, connected, connect_answer, disconnected, disconnect_answer, settled, tip_of, coins_of, held_by}
 use Rattle.ledger.specs.Starting.{in_range, start_answer, start_terms}
 use Rattle.ledger.specs.Runs.{part}
-use Rattle.ledger.specs.Standing.{Stands}
+use Rattle.ledger.specs.Standing.{started, Stands}
 
 -- when a witness opens a lock at a height
 abbrev pub Opens : Type 0
@@ -29,7 +29,7 @@ pub data Page : Type 0 where
 
 -- the ledger l is not started, over a view with the capacity n and the coins m, and over the condition o
 pub record Waits {V C : Type 0} (v : ViewGhosts V) (c : ConditionGhosts C) (n : ℕ) (o : Opens) (m : Coins) (l : Ledger V C v) : Type 0 where
-  pub started : l.started ≡ false
+  pub started : started l ≡ false
   pub room : v.most l.state.view ≡ n
   pub opens : c.opens l.condition ≡ o
   pub coins : v.coins l.state.view ≡ m

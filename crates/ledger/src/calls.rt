@@ -10,12 +10,12 @@ ghost use Rattle.connecting.specs.Rules.{effect, needs as needsOf};
 ghost use Rattle.unwinding.specs.Undoing.{back};
 ghost use Rattle.ledger.specs.Book.{Book, fresh, connected, connect_bytes, told, connect_answer, disconnected, disconnect_answer, settled, tip_of, coins_of, held_by, with_held};
 ghost use Rattle.ledger.specs.Pages.{unstarted, At};
-ghost use Rattle.ledger.specs.Standing.{Stands, Follows, Unchanged};
+ghost use Rattle.ledger.specs.Standing.{started, Stands, Follows, Unchanged};
 ghost use Rattle.ledger.specs.Starting.{in_range, start_answer, start_terms};
 
 use crate::fault::LedgerFault;
 use crate::terms::Terms;
-use crate::{Balance, Connected, Disconnected, Ledger, Outcome, Tip};
+use crate::{ActiveChain, Balance, Connected, Disconnected, Ledger, Outcome, Tip};
 use applying::apply_block;
 use blockform::reader::Block;
 use checking::check_block;
@@ -33,25 +33,13 @@ impl<V: CoinsView, C: SpendCondition> Ledger<V, C> {
     // A ledger that is not started yet.
     pub fn new(view: V, condition: C) -> Ledger<V, C>
         requires { V.CoinsView.ok view }
-        ensures parts { (result.state.view ≡ view) × (result.condition ≡ condition) × (result.started ≡ false) }
+        ensures parts { (result.state.view ≡ view) × (result.condition ≡ condition) × (started result ≡ false) }
         ensures page { At V.CoinsView C.SpendCondition (unstarted (V.CoinsView.most view) (C.SpendCondition.opens condition) (V.CoinsView.coins view)) result }
     {
-        let terms = Terms {
-            halving: 1,
-            maturity: 1,
-            last: 1,
-        };
-        let tip = Tip {
-            id: [0; 32],
-            height: 0,
-        };
         Ledger {
             state: Chainstate::new(view),
             condition,
-            terms,
-            tip,
-            kept: 0,
-            started: false,
+            active: None,
         }
     }
 
@@ -63,47 +51,50 @@ impl<V: CoinsView, C: SpendCondition> Ledger<V, C> {
         last: u64,
         id: &[u8; 32],
     ) -> Result<(), LedgerFault>
-        ensures answer { result ≡ start_answer self.old.started (in_range halving maturity last) (length (V.CoinsView.coins self.old.state.view)) }
+        ensures answer { result ≡ start_answer (started self.old) (in_range halving maturity last) (length (V.CoinsView.coins self.old.state.view)) }
         ensures same { is_ok result ≡ false → self.new ≡ self.old }
         ensures begins { is_ok result ≡ true → Stands V.CoinsView C.SpendCondition (fresh (start_terms (V.CoinsView.most self.old.state.view) (C.SpendCondition.opens self.old.condition) halving maturity last id.now)) self.new }
     {
-        if self.started {
+        if self.active.is_some() {
             return Err(LedgerFault::Started);
         }
-        let Some(terms) = Terms::new(halving, maturity, last) else {
-            return Err(LedgerFault::Parameter);
-        };
+        let terms = Terms::new(halving, maturity, last).ok_or(LedgerFault::Parameter)?;
         if self.state.view.count() > 0 {
             return Err(LedgerFault::NotEmpty);
         }
-        self.terms = terms;
         self.state.undo.keep(0);
-        self.kept = 0;
-        self.tip = Tip { id: *id, height: 0 };
-        self.started = true;
+        self.active = Some(ActiveChain {
+            terms,
+            tip: Tip { id: *id, height: 0 },
+            kept: 0,
+        });
         Ok(())
     }
 
     // Connects a block to the tip, or says why not.
-    fn connect_block(&mut self, bytes: &[u8]) -> Result<Connected, BlockFault>
+    fn connect_block(&mut self, chain: ActiveChain, bytes: &[u8]) -> Result<Connected, BlockFault>
+        requires { self.old.active ≡ Some chain }
         ensures law { Follows V.CoinsView C.SpendCondition self.old self.new result (λ k. connected k bytes.now) (λ k. told k (connect_bytes k bytes.now)) }
         ensures same { is_ok result ≡ false → Unchanged V.CoinsView self.old self.new }
     {
         let block = Block::read(bytes)?;
-        let needed = check_block(&block, &self.tip.id, self.tip.height, self.terms.last)?;
+        let needed = check_block(&block, &chain.tip.id, chain.tip.height, chain.terms.last)?;
         if needed > self.state.undo.free() {
             return Err(BlockFault::LogFull);
         }
-        let height = self.tip.height + 1;
+        let height = chain.tip.height + 1;
         let site = Site {
             height,
-            maturity: self.terms.maturity,
-            halving: self.terms.halving,
+            maturity: chain.terms.maturity,
+            halving: chain.terms.halving,
         };
         let sums = apply(&mut self.state, &self.condition, &block, site)?;
         let id = *block.id();
-        self.tip = Tip { id, height };
-        self.kept += 1;
+        self.active = Some(ActiveChain {
+            terms: chain.terms,
+            tip: Tip { id, height },
+            kept: chain.kept + 1,
+        });
         Ok(Connected {
             height,
             made: sums.made,
@@ -115,38 +106,37 @@ impl<V: CoinsView, C: SpendCondition> Ledger<V, C> {
 
     // Connects the block that the bytes are.
     pub fn connect(&mut self, bytes: &[u8]) -> Result<Connected, LedgerFault>
-        ensures early { self.old.started ≡ false → (result ≡ Err LedgerFault.NotStarted) × (self.new ≡ self.old) }
+        ensures early { started self.old ≡ false → (result ≡ Err LedgerFault.NotStarted) × (self.new ≡ self.old) }
         ensures law { Follows V.CoinsView C.SpendCondition self.old self.new result (λ k. connected k bytes.now) (λ k. connect_answer k bytes.now) }
         ensures same { is_ok result ≡ false → Unchanged V.CoinsView self.old self.new }
     {
-        if !self.started {
-            return Err(LedgerFault::NotStarted);
-        }
-        Ok(self.connect_block(bytes)?)
+        let chain = self.active.ok_or(LedgerFault::NotStarted)?;
+        Ok(self.connect_block(chain, bytes)?)
     }
 
     // Takes the last block back, by its undo entries.
     pub fn disconnect(&mut self) -> Result<Disconnected, LedgerFault>
-        ensures early { self.old.started ≡ false → (result ≡ Err LedgerFault.NotStarted) × (self.new ≡ self.old) }
+        ensures early { started self.old ≡ false → (result ≡ Err LedgerFault.NotStarted) × (self.new ≡ self.old) }
         ensures law { Follows V.CoinsView C.SpendCondition self.old self.new result disconnected disconnect_answer }
         ensures same { (k : Book) → Stands V.CoinsView C.SpendCondition k self.old → is_ok result ≡ false → Unchanged V.CoinsView self.old self.new }
     {
-        if !self.started {
-            return Err(LedgerFault::NotStarted);
-        }
-        if self.kept == 0 {
+        let chain = self.active.ok_or(LedgerFault::NotStarted)?;
+        if chain.kept == 0 {
             return Err(LedgerFault::Nothing);
         }
         let Some(unwound) = unwind(&mut self.state.view, &mut self.state.undo) else {
             return Err(LedgerFault::Nothing);
         };
-        let height = self.tip.height;
         let id = unwound.previous;
-        self.kept -= 1;
-        self.tip = Tip {
-            id,
-            height: height - 1,
-        };
+        let height = chain.tip.height;
+        self.active = Some(ActiveChain {
+            terms: chain.terms,
+            tip: Tip {
+                id,
+                height: height - 1,
+            },
+            kept: chain.kept - 1,
+        });
         Ok(Disconnected {
             height,
             outcome: outcome(unwound.clean),
@@ -155,79 +145,70 @@ impl<V: CoinsView, C: SpendCondition> Ledger<V, C> {
 
     // Keeps the undo entries of the newest n blocks, frees the others, and answers how many blocks are kept.
     pub fn settle(&mut self, n: u64) -> Result<u64, LedgerFault>
-        ensures early { self.old.started ≡ false → (result ≡ Err LedgerFault.NotStarted) × (self.new ≡ self.old) }
+        ensures early { started self.old ≡ false → (result ≡ Err LedgerFault.NotStarted) × (self.new ≡ self.old) }
         ensures law { Follows V.CoinsView C.SpendCondition self.old self.new result (λ k. settled k n) (λ k. Ok (min n k.kept)) }
     {
-        if !self.started {
-            return Err(LedgerFault::NotStarted);
-        }
-        let kept = u64::from(self.kept);
+        let chain = self.active.ok_or(LedgerFault::NotStarted)?;
+        let kept = u64::from(chain.kept);
         if kept <= n {
             return Ok(kept);
         }
         self.state.undo.keep(n as usize);
-        self.kept = n as u32;
+        self.active = Some(ActiveChain {
+            terms: chain.terms,
+            tip: chain.tip,
+            kept: n as u32,
+        });
         Ok(n)
     }
 
     // Makes the base at the foot hold the coins.
     pub fn flush(&mut self) -> Result<(), LedgerFault>
-        ensures early { self.old.started ≡ false → (result ≡ Err LedgerFault.NotStarted) × (self.new ≡ self.old) }
+        ensures early { started self.old ≡ false → (result ≡ Err LedgerFault.NotStarted) × (self.new ≡ self.old) }
         ensures law { Follows V.CoinsView C.SpendCondition self.old self.new result (λ k. k) (λ _. Ok tt) }
         ensures same { Unchanged V.CoinsView self.old self.new }
-        ensures bottom { self.old.started ≡ true → V.CoinsView.bottom self.new.state.view ≡ V.CoinsView.coins self.new.state.view }
+        ensures bottom { started self.old ≡ true → V.CoinsView.bottom self.new.state.view ≡ V.CoinsView.coins self.new.state.view }
     {
-        if !self.started {
-            return Err(LedgerFault::NotStarted);
-        }
+        self.active.ok_or(LedgerFault::NotStarted)?;
         self.state.view.flush();
         Ok(())
     }
 
     // The tip: its identifier and height.
     pub fn tip(&self) -> Result<Tip, LedgerFault>
-        ensures early { self.now.started ≡ false → result ≡ Err LedgerFault.NotStarted }
+        ensures early { started self.now ≡ false → result ≡ Err LedgerFault.NotStarted }
         ensures law { (k : Book) → Stands V.CoinsView C.SpendCondition k self.now → result ≡ Ok (tip_of k) }
     {
-        if !self.started {
-            return Err(LedgerFault::NotStarted);
-        }
-        Ok(self.tip)
+        Ok(self.active.ok_or(LedgerFault::NotStarted)?.tip)
     }
 
     // The coin at an outpoint.
     pub fn look(&mut self, at: &Outpoint) -> Result<Option<Coin>, LedgerFault>
-        ensures early { self.old.started ≡ false → (result ≡ Err LedgerFault.NotStarted) × (self.new ≡ self.old) }
+        ensures early { started self.old ≡ false → (result ≡ Err LedgerFault.NotStarted) × (self.new ≡ self.old) }
         ensures law { Follows V.CoinsView C.SpendCondition self.old self.new result (λ k. k) (λ k. Ok (coin_at at.now (coins_of k))) }
         ensures same { Unchanged V.CoinsView self.old self.new }
     {
-        if !self.started {
-            return Err(LedgerFault::NotStarted);
-        }
+        self.active.ok_or(LedgerFault::NotStarted)?;
         Ok(self.state.view.look(at))
     }
 
     // How many coins a lock has, and what they are worth.
     pub fn balance(&mut self, lock: &Lock) -> Result<Balance, LedgerFault>
-        ensures early { self.old.started ≡ false → (result ≡ Err LedgerFault.NotStarted) × (self.new ≡ self.old) }
+        ensures early { started self.old ≡ false → (result ≡ Err LedgerFault.NotStarted) × (self.new ≡ self.old) }
         ensures law { Follows V.CoinsView C.SpendCondition self.old self.new result (λ k. k) (λ k. Ok (held_by lock.now (coins_of k))) }
         ensures same { Unchanged V.CoinsView self.old self.new }
     {
-        if !self.started {
-            return Err(LedgerFault::NotStarted);
-        }
+        self.active.ok_or(LedgerFault::NotStarted)?;
         Ok(balance_of(&mut self.state.view, lock))
     }
 
     // The least outpoint above the given one, or of all, with its coin.
     pub fn next(&mut self, from: Option<&Outpoint>) -> Result<Option<(Outpoint, Coin)>, LedgerFault>
-        ensures early { self.old.started ≡ false → (result ≡ Err LedgerFault.NotStarted) × (self.new ≡ self.old) }
+        ensures early { started self.old ≡ false → (result ≡ Err LedgerFault.NotStarted) × (self.new ≡ self.old) }
         ensures law { Follows V.CoinsView C.SpendCondition self.old self.new result (λ k. k) (λ k. Ok (next_in (option_map (λ x. x.now) from.entry) (coins_of k))) }
         ensures same { Unchanged V.CoinsView self.old self.new }
     {
-        if !self.started {
-            return Err(LedgerFault::NotStarted);
-        }
+        self.active.ok_or(LedgerFault::NotStarted)?;
         Ok(self.state.view.next(from))
     }
 }

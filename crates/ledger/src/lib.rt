@@ -51,13 +51,19 @@ pub struct Balance {
     pub value: u64,
 }
 
+// The blocks that stand: what the ledger was started with, the tip, and how many of the newest have their undo entries.
+#[derive(Clone, Copy)]
+struct ActiveChain {
+    terms: Terms,
+    tip: Tip,
+    kept: u32,
+    ghost counts: { kept ≤ tip.height },
+}
+
+// A ledger has an active chain once it is started.
 #[derive(Drop)]
 pub struct Ledger<V: CoinsView, C> {
     state: Chainstate<V>,
     condition: C,
-    terms: Terms,
-    tip: Tip,
-    kept: u32,
-    started: bool,
-    ghost counts: { kept ≤ tip.height },
+    active: Option<ActiveChain>,
 }

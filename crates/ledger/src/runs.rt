@@ -5,7 +5,7 @@ ghost use Rattle.ledger.specs.Laws.{Laws};
 ghost use Rattle.ledger.specs.PageLaws.{PageLaws, Performed};
 ghost use Rattle.ledger.specs.Pages.{Page, At};
 ghost use Rattle.ledger.specs.Runs.{book_after, answer_of, part as part_of};
-ghost use Rattle.ledger.specs.Standing.{Stands, Follows};
+ghost use Rattle.ledger.specs.Standing.{started, Stands, Follows};
 ghost use Rattle.ledger.specs.declared.runs.Answer.{Answer as Said};
 ghost use Rattle.ledger.specs.declared.runs.Call.{Call as Asked};
 ghost use Rattle.ledger.specs.declared.runs.Call.TheVariants.{Flush as FlushCall};
@@ -66,7 +66,7 @@ impl<V: CoinsView, C: SpendCondition> Ledger<V, C> {
     // Makes one call.
     fn make(&mut self, bytes: &[u8], call: Call) -> Answer
         ensures performed { Performed V.CoinsView C.SpendCondition bytes.now call result self.old self.new }
-        ensures bottom { call ≡ FlushCall → self.old.started ≡ true → V.CoinsView.bottom self.new.state.view ≡ V.CoinsView.coins self.new.state.view }
+        ensures bottom { call ≡ FlushCall → started self.old ≡ true → V.CoinsView.bottom self.new.state.view ≡ V.CoinsView.coins self.new.state.view }
     {
         match call {
             Call::Start {
@@ -89,7 +89,7 @@ impl<V: CoinsView, C: SpendCondition> Ledger<V, C> {
     // Performs one call. Whatever calls came before it, the laws over runs hold after it too.
     pub fn perform(&mut self, bytes: &[u8], call: Call) -> Answer
         ensures law { Follows V.CoinsView C.SpendCondition self.old self.new result (book_after bytes.now call) (answer_of bytes.now call) }
-        ensures bottom { call ≡ FlushCall → self.old.started ≡ true → V.CoinsView.bottom self.new.state.view ≡ V.CoinsView.coins self.new.state.view }
+        ensures bottom { call ≡ FlushCall → started self.old ≡ true → V.CoinsView.bottom self.new.state.view ≡ V.CoinsView.coins self.new.state.view }
         ensures performed { Performed V.CoinsView C.SpendCondition bytes.now call result self.old self.new }
         ensures page_laws { (p : Page) (cs : List Asked) (said : List Said) → PageLaws V.CoinsView C.SpendCondition p bytes.now cs said self.old → PageLaws V.CoinsView C.SpendCondition p bytes.now (cs ++ (call ∷ [])) (said ++ (result ∷ [])) self.new }
     {
