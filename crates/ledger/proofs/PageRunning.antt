@@ -28,7 +28,7 @@ answers_more bytes (c ∷ cs) x p = ap (λ l. answer_on bytes c p ∷ l) (answer
 
 -- on a book a page's call is the book's
 pub page_book : (bytes : List ℕ) (x : Call) (k : Book) → (page_after bytes x (standing k) ≡ standing (book_after bytes x k)) × (answer_on bytes x (standing k) ≡ answer_of bytes x k)
-page_book bytes (call.Start h m l id) k = (refl, refl)
+page_book bytes (call.Start x id) k = (refl, refl)
 page_book bytes (call.Connect from to) k = (refl, refl)
 page_book bytes call.Disconnect k = (refl, refl)
 page_book bytes (call.Settle n) k = (refl, refl)

@@ -4,6 +4,7 @@ use Rattle.coinsview.specs.Meaning.{Coins}
 use Rattle.coinsview.specs.declared.view.CoinsView.{Ghosts as ViewGhosts}
 use Rattle.views.specs.declared.condition.SpendCondition.{Ghosts as ConditionGhosts}
 use Rattle.undo.specs.Entries.{entries}
+use Rattle.ledger.specs.declared.terms.Parameters.{Parameters}
 use Rattle.ledger.specs.declared.Ledger.{Ledger}
 use Rattle.ledger.specs.declared.Tip.{Tip}
 use Rattle.ledger.specs.declared.fault.LedgerFault.{LedgerFault}
@@ -53,15 +54,15 @@ module _ {V C : Type 0} (v : ViewGhosts V) (c : ConditionGhosts C) where
   begins n o m t a z (Ok u) w same start = start refl
   begins n o m t a z (Err f) w same start = subst (Waits v c n o m) (sym (same refl)) w
 
-  pub start_on_page : (h x l : ℕ) (id : List ℕ) (a z : Ledger V C v) (r : Result Unit LedgerFault)
-      → r ≡ start_answer (started a) (in_range h x l) (length (v.coins a.state.view))
+  pub start_on_page : (x : Parameters) (id : List ℕ) (a z : Ledger V C v) (r : Result Unit LedgerFault)
+      → r ≡ start_answer (started a) (in_range x) (length (v.coins a.state.view))
       → (is_ok r ≡ false → z ≡ a)
-      → (is_ok r ≡ true → Stands v c (fresh (start_terms (v.most a.state.view) (c.opens a.condition) h x l id)) z)
-      → (p : Page) → At v c p a → At v c (begun p h x l id) z × (r ≡ start_on p h x l)
-  start_on_page h x l id a z r e same start (unstarted n o m) w =
-      let is : r ≡ start_answer false (in_range h x l) (length m) = e ∙ ap (λ b. start_answer b (in_range h x l) (length (v.coins a.state.view))) w.started ∙ ap (λ q. start_answer false (in_range h x l) (length q)) w.coins in
-      let terms : start_terms (v.most a.state.view) (c.opens a.condition) h x l id ≡ start_terms n o h x l id = ap (λ k. start_terms k (c.opens a.condition) h x l id) w.room ∙ ap (λ k. start_terms n k h x l id) w.opens in
-      (subst (λ q. At v c (begun_by q (unstarted n o m) (start_terms n o h x l id)) z) is (begins n o m (start_terms n o h x l id) a z r w same (λ y. subst (λ t. Stands v c (fresh t) z) terms (start y))), is)
-  start_on_page h x l id a z r e same start (standing k) s =
-      let is : r ≡ start_on (standing k) h x l = e ∙ ap (λ b. start_answer b (in_range h x l) (length (v.coins a.state.view))) (stands_started v c k a s) in
+      → (is_ok r ≡ true → Stands v c (fresh (start_terms (v.most a.state.view) (c.opens a.condition) x id)) z)
+      → (p : Page) → At v c p a → At v c (begun p x id) z × (r ≡ start_on p x)
+  start_on_page x id a z r e same start (unstarted n o m) w =
+      let is : r ≡ start_answer false (in_range x) (length m) = e ∙ ap (λ b. start_answer b (in_range x) (length (v.coins a.state.view))) w.started ∙ ap (λ q. start_answer false (in_range x) (length q)) w.coins in
+      let terms : start_terms (v.most a.state.view) (c.opens a.condition) x id ≡ start_terms n o x id = ap (λ k. start_terms k (c.opens a.condition) x id) w.room ∙ ap (λ k. start_terms n k x id) w.opens in
+      (subst (λ q. At v c (begun_by q (unstarted n o m) (start_terms n o x id)) z) is (begins n o m (start_terms n o x id) a z r w same (λ y. subst (λ t. Stands v c (fresh t) z) terms (start y))), is)
+  start_on_page x id a z r e same start (standing k) s =
+      let is : r ≡ start_on (standing k) x = e ∙ ap (λ b. start_answer b (in_range x) (length (v.coins a.state.view))) (stands_started v c k a s) in
       (subst (Stands v c k) (sym (same (ap is_ok is))) s, is)

@@ -28,7 +28,7 @@ ends_more (c ∷ []) x = refl
 ends_more (c ∷ (d ∷ cs)) x = ends_more (d ∷ cs) x
 
 pub flush_is : (x : Call) → is_flush x ≡ true → x ≡ call.Flush
-flush_is (call.Start h m l id) e = absurd (let z : ◌≡◌ {A = ℕ} 0 1 = cc in omega arith)
+flush_is (call.Start x id) e = absurd (let z : ◌≡◌ {A = ℕ} 0 1 = cc in omega arith)
 flush_is (call.Connect from to) e = absurd (let z : ◌≡◌ {A = ℕ} 0 1 = cc in omega arith)
 flush_is call.Disconnect e = absurd (let z : ◌≡◌ {A = ℕ} 0 1 = cc in omega arith)
 flush_is (call.Settle n) e = absurd (let z : ◌≡◌ {A = ℕ} 0 1 = cc in omega arith)

@@ -14,7 +14,7 @@ use Rattle.ledger.specs.Standing.{Stands}
 use Rattle.ledger.specs.Runs.{books_after, answers_of}
 
 abbrev pub is_flush : Call → Bool
-is_flush (call.Start h m l id) = false
+is_flush (call.Start x id) = false
 is_flush (call.Connect from to) = false
 is_flush call.Disconnect = false
 is_flush (call.Settle n) = false

@@ -1,5 +1,5 @@
 // The calls on a ledger.
-ghost use Rattle.std.specs.Prelude.{◌≡◌, ◌+◌, ◌*◌, ◌≤◌, min, true, false, [], length, is_ok, Some, Ok, Err, MatchResult, OnOk};
+ghost use Rattle.std.specs.Prelude.{◌≡◌, ◌+◌, ◌*◌, ◌≤◌, min, true, false, [], length, is_ok, Some, Ok, Err, MatchResult, OnOk, if◌then◌else◌};
 ghost use Rattle.std.specs.Option.{option_map};
 ghost use Rattle.coinsview.specs.Meaning.{coin_at, next_in};
 ghost use Rattle.undo.specs.Entries.{entries};
@@ -11,10 +11,11 @@ ghost use Rattle.unwinding.specs.Undoing.{back};
 ghost use Rattle.ledger.specs.Book.{Book, fresh, connected, connect_bytes, told, connect_answer, disconnected, disconnect_answer, settled, tip_of, coins_of, held_by, with_held};
 ghost use Rattle.ledger.specs.Pages.{unstarted, At};
 ghost use Rattle.ledger.specs.Standing.{started, Stands, Follows, Unchanged};
+ghost use Rattle.ledger.specs.declared.Outcome.TheVariants.{Clean, Unclean};
 ghost use Rattle.ledger.specs.Starting.{in_range, start_answer, start_terms};
 
 use crate::fault::LedgerFault;
-use crate::terms::Terms;
+use crate::terms::{Parameters, Terms};
 use crate::{ActiveChain, Balance, Connected, Disconnected, Ledger, Outcome, Tip};
 use applying::apply_block;
 use blockform::reader::Block;
@@ -44,21 +45,15 @@ impl<V: CoinsView, C: SpendCondition> Ledger<V, C> {
     }
 
     // Starts the ledger over a view with no coins, once.
-    pub fn start(
-        &mut self,
-        halving: u64,
-        maturity: u64,
-        last: u64,
-        id: &[u8; 32],
-    ) -> Result<(), LedgerFault>
-        ensures answer { result ≡ start_answer (started self.old) (in_range halving maturity last) (length (V.CoinsView.coins self.old.state.view)) }
+    pub fn start(&mut self, parameters: Parameters, id: &[u8; 32]) -> Result<(), LedgerFault>
+        ensures answer { result ≡ start_answer (started self.old) (in_range parameters) (length (V.CoinsView.coins self.old.state.view)) }
         ensures same { is_ok result ≡ false → self.new ≡ self.old }
-        ensures begins { is_ok result ≡ true → Stands V.CoinsView C.SpendCondition (fresh (start_terms (V.CoinsView.most self.old.state.view) (C.SpendCondition.opens self.old.condition) halving maturity last id.now)) self.new }
+        ensures begins { is_ok result ≡ true → Stands V.CoinsView C.SpendCondition (fresh (start_terms (V.CoinsView.most self.old.state.view) (C.SpendCondition.opens self.old.condition) parameters id.now)) self.new }
     {
         if self.active.is_some() {
             return Err(LedgerFault::Started);
         }
-        let terms = Terms::new(halving, maturity, last).ok_or(LedgerFault::Parameter)?;
+        let terms = Terms::try_from(parameters)?;
         if self.state.view.count() > 0 {
             return Err(LedgerFault::NotEmpty);
         }
@@ -139,7 +134,7 @@ impl<V: CoinsView, C: SpendCondition> Ledger<V, C> {
         });
         Ok(Disconnected {
             height,
-            outcome: outcome(unwound.clean),
+            outcome: Outcome::from(unwound.clean),
         })
     }
 
@@ -237,13 +232,15 @@ fn apply<V: CoinsView, C: SpendCondition>(
     applied
 }
 
-fn outcome(clean: bool) -> Outcome
-    ensures { clean ≡ true → result ≡ Outcome.Clean }
-{
-    if clean {
-        Outcome::Clean
-    } else {
-        Outcome::Unclean
+impl From<bool> for Outcome {
+    ghost from_gives = { λ clean r. r ≡ (if clean then Clean else Unclean) };
+
+    fn from(clean: bool) -> Outcome {
+        if clean {
+            Outcome::Clean
+        } else {
+            Outcome::Unclean
+        }
     }
 }
 

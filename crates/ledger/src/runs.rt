@@ -11,6 +11,7 @@ ghost use Rattle.ledger.specs.declared.runs.Call.{Call as Asked};
 ghost use Rattle.ledger.specs.declared.runs.Call.TheVariants.{Flush as FlushCall};
 
 use crate::fault::LedgerFault;
+use crate::terms::Parameters;
 use crate::{Balance, Connected, Disconnected, Ledger, Tip};
 use coins::coin::{Coin, Lock};
 use coins::outpoint::Outpoint;
@@ -21,9 +22,7 @@ use views::condition::SpendCondition;
 #[derive(Clone, Copy)]
 pub enum Call {
     Start {
-        halving: u64,
-        maturity: u64,
-        last: u64,
+        parameters: Parameters,
         id: [u8; 32],
     },
     Connect {
@@ -69,12 +68,7 @@ impl<V: CoinsView, C: SpendCondition> Ledger<V, C> {
         ensures bottom { call ≡ FlushCall → started self.old ≡ true → V.CoinsView.bottom self.new.state.view ≡ V.CoinsView.coins self.new.state.view }
     {
         match call {
-            Call::Start {
-                halving,
-                maturity,
-                last,
-                id,
-            } => Answer::Start(self.start(halving, maturity, last, &id)),
+            Call::Start { parameters, id } => Answer::Start(self.start(parameters, &id)),
             Call::Connect { from, to } => Answer::Connect(self.connect(part(bytes, from, to))),
             Call::Disconnect => Answer::Disconnect(self.disconnect()),
             Call::Settle(n) => Answer::Settle(self.settle(n)),

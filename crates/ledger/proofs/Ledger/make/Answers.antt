@@ -18,7 +18,7 @@ returns-in-Start-clause-performed g c =
     let r = c.start.result in
     let e = c.start.ensures in
     subst (λ x. Performed v o c.args.bytes.now x (answer.Start r) a z) (sym c.in-Start.is) (record {
-      law = λ p s. let q = start_on_page v o c.in-Start.halving c.in-Start.maturity c.in-Start.last _ a z r e.answer e.same e.begins p s in (q.0, ap answer.Start q.1);
+      law = λ p s. let q = start_on_page v o c.in-Start.parameters _ a z r e.answer e.same e.begins p s in (q.0, ap answer.Start q.1);
       kind = (r, refl);
       same = λ p s h. unchanged v a z (e.same h);
     })
