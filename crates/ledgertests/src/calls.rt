@@ -4,7 +4,9 @@ use coins::coin::{Coin, Lock};
 use coins::outpoint::Outpoint;
 use coinsview::view::CoinsView;
 use ledger::fault::LedgerFault;
+use ledger::terms::Parameters;
 use ledger::{Ledger, Outcome};
+use refusal::Refusal;
 use views::condition::SpendCondition;
 
 // Transactions go by the number of their identifier, blocks by their place in a list.
@@ -60,8 +62,7 @@ fn connect<V: CoinsView, C: SpendCondition>(
     ledger: &mut Ledger<V, C>,
     blocks: &[Vec<u8>],
     at: usize,
-) -> Result<Answer, LedgerFault>
-{
+) -> Result<Answer, LedgerFault> {
     let answer = match blocks.get(at) {
         Some(block) => ledger.connect(block.as_slice())?,
         None => ledger.connect(&[])?,
@@ -78,8 +79,7 @@ fn connect<V: CoinsView, C: SpendCondition>(
 fn next_above<V: CoinsView, C: SpendCondition>(
     ledger: &mut Ledger<V, C>,
     from: Option<Outpoint>,
-) -> Result<Answer, LedgerFault>
-{
+) -> Result<Answer, LedgerFault> {
     Ok(found(ledger.next(from.as_ref())?))
 }
 
@@ -87,8 +87,7 @@ fn next_above<V: CoinsView, C: SpendCondition>(
 fn ask<V: CoinsView, C: SpendCondition>(
     ledger: &mut Ledger<V, C>,
     call: Call,
-) -> Result<Answer, LedgerFault>
-{
+) -> Result<Answer, LedgerFault> {
     match call {
         Call::Look(tx, index) => match ledger.look(&outpoint(tx, index))? {
             Some(coin) => Ok(Answer::Coin(tx, index, coin.value)),
@@ -111,11 +110,15 @@ fn try_call<V: CoinsView, C: SpendCondition>(
     ledger: &mut Ledger<V, C>,
     blocks: &[Vec<u8>],
     call: Call,
-) -> Result<Answer, LedgerFault>
-{
+) -> Result<Answer, LedgerFault> {
     match call {
         Call::Start(halving, maturity, last) => {
-            ledger.start(halving, maturity, last, &id(0))?;
+            let parameters = Parameters {
+                halving,
+                maturity,
+                last,
+            };
+            ledger.start(parameters, &id(0))?;
             Ok(Answer::Done)
         }
         Call::Connect(at) => connect(ledger, blocks, at),
@@ -138,12 +141,11 @@ pub fn perform<V: CoinsView, C: SpendCondition>(
     ledger: &mut Ledger<V, C>,
     blocks: &[Vec<u8>],
     call: Call,
-) -> Answer
-{
+) -> Answer {
     match try_call(ledger, blocks, call) {
         Ok(answer) => answer,
         Err(fault) => {
-            let refusal = fault.refusal();
+            let refusal = Refusal::from(fault);
             Answer::Refused(refusal.reason.number(), refusal.first, refusal.second)
         }
     }

@@ -42,8 +42,7 @@ pub fn stand_first(cells: &[(Outpoint, Coin)], coins: &[(Outpoint, Coin)]) -> bo
 fn coins_of<V: CoinsView, C: SpendCondition>(
     heap: Global,
     ledger: &mut Ledger<V, C>,
-) -> Result<Vec<(Outpoint, Coin)>, AllocError>
-{
+) -> Result<Vec<(Outpoint, Coin)>, AllocError> {
     let mut coins = Vec::new(heap);
     let mut last = None;
     for _ in 0..MANY {
@@ -63,8 +62,7 @@ fn coins_of<V: CoinsView, C: SpendCondition>(
 pub fn state_of<V: CoinsView, C: SpendCondition>(
     heap: Global,
     ledger: &mut Ledger<V, C>,
-) -> Result<State, AllocError>
-{
+) -> Result<State, AllocError> {
     let coins = coins_of(heap, ledger)?;
     Ok(State {
         tip: ledger.tip().ok(),
