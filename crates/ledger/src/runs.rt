@@ -57,8 +57,7 @@ fn part(bytes: &[u8], from: usize, to: usize) -> &[u8]
     ensures { result.now ≡ part_of from to bytes.now }
 {
     let end = to.min(bytes.len());
-    let start = from.min(end);
-    bytes.split_at(end).0.split_at(start).1
+    &bytes[from.min(end)..end]
 }
 
 impl<V: CoinsView, C: SpendCondition> Ledger<V, C> {
@@ -96,12 +95,11 @@ impl<V: CoinsView, C: SpendCondition> Ledger<V, C> {
         ensures laws { (k : Book) → Stands V.CoinsView C.SpendCondition k self.old → Laws V.CoinsView C.SpendCondition k bytes.now (take result calls.now) (take result answers.new) self.new }
         ensures page_laws { (p : Page) → At V.CoinsView C.SpendCondition p self.old → PageLaws V.CoinsView C.SpendCondition p bytes.now (take result calls.now) (take result answers.new) self.new }
     {
-        let mut done = 0;
-        while done < calls.len() && done < answers.len() {
-            let answer = self.perform(bytes, calls[done]);
-            answers[done] = answer;
-            done += 1;
+        // By index: of the elements that an adapter of `iter_mut` wrote, no proof knows anything.
+        let count = calls.len().min(answers.len());
+        for i in 0..count {
+            answers[i] = self.perform(bytes, calls[i]);
         }
-        done
+        count
     }
 }
