@@ -266,15 +266,11 @@ fn balance_of<V: CoinsView>(view: &mut V, lock: &Lock) -> Balance
     ensures map { V.CoinsView.coins view.new ≡ V.CoinsView.coins view.old }
     ensures value { result ≡ held_by lock.now (V.CoinsView.coins view.old) }
 {
-    let count = view.count();
     let mut balance = Balance { coins: 0, value: 0 };
     let mut last = None;
-    for _turn in 0..count {
-        let Some(pair) = view.next(last.as_ref()) else {
-            return balance;
-        };
-        balance = with_coin(balance, pair.1, lock);
-        last = Some(pair.0);
+    while let Some((at, coin)) = view.next(last.as_ref()) {
+        balance = with_coin(balance, coin, lock);
+        last = Some(at);
     }
     balance
 }

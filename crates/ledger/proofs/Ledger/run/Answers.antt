@@ -1,5 +1,4 @@
 use Rattle.std.proofs.Common.{◌≡◌, take, subst, arith}
-use Rattle.std.proofs.lemmas.List.{length-set}
 use Rattle.ledger.specs.Laws.{Laws}
 use Rattle.ledger.specs.PageLaws.{PageLaws}
 use Rattle.ledger.proofs.Running.{runs_none, runs_more, runs_laws}
