@@ -6,13 +6,11 @@ use Rattle.views.specs.declared.condition.SpendCondition.{Ghosts as ConditionGho
 use Rattle.undo.specs.Entries.{entries}
 use Rattle.ledger.specs.declared.terms.Parameters.{Parameters}
 use Rattle.ledger.specs.declared.Ledger.{Ledger}
-use Rattle.ledger.specs.declared.Tip.{Tip}
 use Rattle.ledger.specs.declared.fault.LedgerFault.{LedgerFault}
-use Rattle.ledger.specs.declared.fault.LedgerFault.TheVariants.{NotStarted}
-use Rattle.ledger.specs.Book.{Terms, Book, fresh, tip_of}
+use Rattle.ledger.specs.Book.{Terms, Book, fresh}
 use Rattle.ledger.proofs.Books.{stands_started}
 use Rattle.ledger.specs.Starting.{in_range, start_answer, start_terms}
-use Rattle.ledger.specs.Standing.{started, Stands, Follows, Unchanged}
+use Rattle.ledger.specs.Standing.{started, Stands, Early, Follows, Unchanged}
 use Rattle.ledger.specs.Pages.{Opens, Page, unstarted, standing, Waits, At, book_by, from_book, start_on, begun, begun_by}
 
 pub unchanged : {V C : Type 0} (v : ViewGhosts V) (a z : Ledger V C v) → z ≡ a → Unchanged v a z
@@ -25,10 +23,6 @@ unchanged v a z e = record {
 }
 
 module _ {V C : Type 0} (v : ViewGhosts V) (c : ConditionGhosts C) where
-  -- before the start the call is refused and nothing changes
-  abbrev pub Early : {X : Type 0} → Ledger V C v → Ledger V C v → Result X LedgerFault → Type 0
-  Early a z r = started a ≡ false → (r ≡ Err NotStarted) × (z ≡ a)
-
   -- a call that follows the book once it is started
   pub on_page : {X : Type 0} (a z : Ledger V C v) (r : Result X LedgerFault) (f : Book → Book) (g : Book → Result X LedgerFault) → Early a z r → Follows v c a z r f g → (p : Page) → At v c p a → At v c (book_by f p) z × (r ≡ from_book g p)
   on_page a z r f g early law (unstarted n o m) w = let e = early w.started in (subst (Waits v c n o m) (sym e.1) w, e.0)
@@ -38,10 +32,6 @@ module _ {V C : Type 0} (v : ViewGhosts V) (c : ConditionGhosts C) where
   pub on_same_page : {X : Type 0} (a z : Ledger V C v) (r : Result X LedgerFault) (g : Book → Result X LedgerFault) → Early a z r → Follows v c a z r (λ k. k) g → (p : Page) → At v c p a → At v c p z × (r ≡ from_book g p)
   on_same_page a z r g early law (unstarted n o m) w = let e = early w.started in (subst (Waits v c n o m) (sym e.1) w, e.0)
   on_same_page a z r g early law (standing k) s = law k s
-
-  pub tip_on_page : (a : Ledger V C v) (r : Result Tip LedgerFault) → (started a ≡ false → r ≡ Err NotStarted) → ((k : Book) → Stands v c k a → r ≡ Ok (tip_of k)) → (p : Page) → At v c p a → At v c p a × (r ≡ from_book (λ k. Ok (tip_of k)) p)
-  tip_on_page a r early law (unstarted n o m) w = (w, early w.started)
-  tip_on_page a r early law (standing k) s = (s, law k s)
 
   -- a refused call leaves the ledger, if it does so once it is started
   pub kept_on_page : {X : Type 0} (a z : Ledger V C v) (r : Result X LedgerFault) → Early a z r → ((k : Book) → Stands v c k a → is_ok r ≡ false → Unchanged v a z) → (p : Page) → At v c p a → is_ok r ≡ false → Unchanged v a z

@@ -1,5 +1,5 @@
 -- When a ledger stands by a book.
-use Rattle.std.specs.Prelude.{◌≡◌, ℕ, zero, suc, ◌+◌, Bool, true, List, [], ◌∷◌, length, is_ok, is_some, IsSomeAnd, Some}
+use Rattle.std.specs.Prelude.{◌≡◌, ℕ, zero, suc, ◌+◌, Bool, true, false, List, [], ◌∷◌, length, is_ok, is_some, IsSomeAnd, Some, Err, Result}
 use Rattle.coinsview.specs.declared.view.CoinsView.{Ghosts as ViewGhosts}
 use Rattle.views.specs.declared.condition.SpendCondition.{Ghosts as ConditionGhosts}
 use Rattle.undo.specs.declared.Record.{Record}
@@ -9,6 +9,8 @@ use Rattle.connecting.specs.Rules.{needs}
 use Rattle.unwinding.specs.Undoing.{back}
 use Rattle.ledger.specs.declared.ActiveChain.{ActiveChain}
 use Rattle.ledger.specs.declared.Ledger.{Ledger}
+use Rattle.ledger.specs.declared.fault.LedgerFault.{LedgerFault}
+use Rattle.ledger.specs.declared.fault.LedgerFault.TheVariants.{NotStarted}
 use Rattle.ledger.specs.Book.{Terms, Book, tip_id, accept, replay, coins_of}
 
 -- each standing block was accepted by the rules
@@ -55,3 +57,7 @@ pub record Unchanged {V C : Type 0} (v : ViewGhosts V) (a z : Ledger V C v) : Ty
 -- a call that takes the ledger a to z and answers r follows the book: whatever book a stands by, z stands by the book after the call, and r is the book's answer
 abbrev pub Follows : {V C R : Type 0} (v : ViewGhosts V) → ConditionGhosts C → Ledger V C v → Ledger V C v → R → (Book → Book) → (Book → R) → Type 0
 Follows v c a z r next answer = (k : Book) → Stands v c k a → Stands v c (next k) z × (r ≡ answer k)
+
+-- before the start, a call that takes the ledger a to z and answers r is refused and changes nothing
+abbrev pub Early : {V C X : Type 0} {v : ViewGhosts V} → Ledger V C v → Ledger V C v → Result X LedgerFault → Type 0
+Early a z r = started a ≡ false → (r ≡ Err NotStarted) × (z ≡ a)

@@ -10,7 +10,7 @@ ghost use Rattle.connecting.specs.Rules.{effect, needs as needsOf};
 ghost use Rattle.unwinding.specs.Undoing.{back};
 ghost use Rattle.ledger.specs.Book.{Book, fresh, connected, connect_bytes, told, connect_answer, disconnected, disconnect_answer, settled, tip_of, coins_of, held_by, with_held};
 ghost use Rattle.ledger.specs.Pages.{unstarted, At};
-ghost use Rattle.ledger.specs.Standing.{started, Stands, Follows, Unchanged};
+ghost use Rattle.ledger.specs.Standing.{started, Stands, Early, Follows, Unchanged};
 ghost use Rattle.ledger.specs.declared.Outcome.TheVariants.{Clean, Unclean};
 ghost use Rattle.ledger.specs.Starting.{in_range, start_answer, start_terms};
 
@@ -101,7 +101,7 @@ impl<V: CoinsView, C: SpendCondition> Ledger<V, C> {
 
     // Connects the block that the bytes are.
     pub fn connect(&mut self, bytes: &[u8]) -> Result<Connected, LedgerFault>
-        ensures early { started self.old ≡ false → (result ≡ Err LedgerFault.NotStarted) × (self.new ≡ self.old) }
+        ensures early { Early self.old self.new result }
         ensures law { Follows V.CoinsView C.SpendCondition self.old self.new result (λ k. connected k bytes.now) (λ k. connect_answer k bytes.now) }
         ensures same { is_ok result ≡ false → Unchanged V.CoinsView self.old self.new }
     {
@@ -111,7 +111,7 @@ impl<V: CoinsView, C: SpendCondition> Ledger<V, C> {
 
     // Takes the last block back, by its undo entries.
     pub fn disconnect(&mut self) -> Result<Disconnected, LedgerFault>
-        ensures early { started self.old ≡ false → (result ≡ Err LedgerFault.NotStarted) × (self.new ≡ self.old) }
+        ensures early { Early self.old self.new result }
         ensures law { Follows V.CoinsView C.SpendCondition self.old self.new result disconnected disconnect_answer }
         ensures same { (k : Book) → Stands V.CoinsView C.SpendCondition k self.old → is_ok result ≡ false → Unchanged V.CoinsView self.old self.new }
     {
@@ -140,7 +140,7 @@ impl<V: CoinsView, C: SpendCondition> Ledger<V, C> {
 
     // Keeps the undo entries of the newest n blocks, frees the others, and answers how many blocks are kept.
     pub fn settle(&mut self, n: u64) -> Result<u64, LedgerFault>
-        ensures early { started self.old ≡ false → (result ≡ Err LedgerFault.NotStarted) × (self.new ≡ self.old) }
+        ensures early { Early self.old self.new result }
         ensures law { Follows V.CoinsView C.SpendCondition self.old self.new result (λ k. settled k n) (λ k. Ok (min n k.kept)) }
     {
         let chain = self.active.ok_or(LedgerFault::NotStarted)?;
@@ -159,7 +159,7 @@ impl<V: CoinsView, C: SpendCondition> Ledger<V, C> {
 
     // Makes the base at the foot hold the coins.
     pub fn flush(&mut self) -> Result<(), LedgerFault>
-        ensures early { started self.old ≡ false → (result ≡ Err LedgerFault.NotStarted) × (self.new ≡ self.old) }
+        ensures early { Early self.old self.new result }
         ensures law { Follows V.CoinsView C.SpendCondition self.old self.new result (λ k. k) (λ _. Ok tt) }
         ensures same { Unchanged V.CoinsView self.old self.new }
         ensures bottom { started self.old ≡ true → V.CoinsView.bottom self.new.state.view ≡ V.CoinsView.coins self.new.state.view }
@@ -171,15 +171,15 @@ impl<V: CoinsView, C: SpendCondition> Ledger<V, C> {
 
     // The tip: its identifier and height.
     pub fn tip(&self) -> Result<Tip, LedgerFault>
-        ensures early { started self.now ≡ false → result ≡ Err LedgerFault.NotStarted }
-        ensures law { (k : Book) → Stands V.CoinsView C.SpendCondition k self.now → result ≡ Ok (tip_of k) }
+        ensures early { Early self.now self.now result }
+        ensures law { Follows V.CoinsView C.SpendCondition self.now self.now result (λ k. k) (λ k. Ok (tip_of k)) }
     {
         Ok(self.active.ok_or(LedgerFault::NotStarted)?.tip)
     }
 
     // The coin at an outpoint.
     pub fn look(&mut self, at: &Outpoint) -> Result<Option<Coin>, LedgerFault>
-        ensures early { started self.old ≡ false → (result ≡ Err LedgerFault.NotStarted) × (self.new ≡ self.old) }
+        ensures early { Early self.old self.new result }
         ensures law { Follows V.CoinsView C.SpendCondition self.old self.new result (λ k. k) (λ k. Ok (coin_at at.now (coins_of k))) }
         ensures same { Unchanged V.CoinsView self.old self.new }
     {
@@ -189,7 +189,7 @@ impl<V: CoinsView, C: SpendCondition> Ledger<V, C> {
 
     // How many coins a lock has, and what they are worth.
     pub fn balance(&mut self, lock: &Lock) -> Result<Balance, LedgerFault>
-        ensures early { started self.old ≡ false → (result ≡ Err LedgerFault.NotStarted) × (self.new ≡ self.old) }
+        ensures early { Early self.old self.new result }
         ensures law { Follows V.CoinsView C.SpendCondition self.old self.new result (λ k. k) (λ k. Ok (held_by lock.now (coins_of k))) }
         ensures same { Unchanged V.CoinsView self.old self.new }
     {
@@ -199,7 +199,7 @@ impl<V: CoinsView, C: SpendCondition> Ledger<V, C> {
 
     // The least outpoint above the given one, or of all, with its coin.
     pub fn next(&mut self, from: Option<&Outpoint>) -> Result<Option<(Outpoint, Coin)>, LedgerFault>
-        ensures early { started self.old ≡ false → (result ≡ Err LedgerFault.NotStarted) × (self.new ≡ self.old) }
+        ensures early { Early self.old self.new result }
         ensures law { Follows V.CoinsView C.SpendCondition self.old self.new result (λ k. k) (λ k. Ok (next_in (option_map (λ x. x.now) from.entry) (coins_of k))) }
         ensures same { Unchanged V.CoinsView self.old self.new }
     {

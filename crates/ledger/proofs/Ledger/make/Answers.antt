@@ -1,12 +1,12 @@
 use Rattle.std.proofs.Common.{◌≡◌, min, is_ok, Ok, sym, refl, ap, ◌∙◌, subst}
 use Rattle.coinsview.specs.Meaning.{coin_at, next_in}
 use Rattle.ledger.specs.declared.runs.Answer.TheVariants as answer
-use Rattle.ledger.specs.Book.{connected, connect_answer, disconnected, disconnect_answer, settled, coins_of, held_by}
+use Rattle.ledger.specs.Book.{connected, connect_answer, disconnected, disconnect_answer, settled, tip_of, coins_of, held_by}
 use Rattle.ledger.specs.PageLaws.{Performed}
 use Rattle.ledger.specs.Runs.{part}
 use Rattle.ledger.specs.Standing.{Stands}
 use Rattle.ledger.proofs.Books.{clash}
-use Rattle.ledger.proofs.Performing.{unchanged, on_page, on_same_page, kept_on_page, start_on_page, tip_on_page}
+use Rattle.ledger.proofs.Performing.{unchanged, on_page, on_same_page, kept_on_page, start_on_page}
 use Rattle.ledger.proofs.Ledger.make.Goals as goal
 
 pub returns-in-Start-clause-performed : goal.returns-in-Start-clause-performed
@@ -88,7 +88,7 @@ returns-in-Tip-clause-performed g c =
     let r = c.tip.result in
     let e = c.tip.ensures in
     subst (λ x. Performed v o c.args.bytes.now x (answer.Tip r) a z) (sym c.in-Tip.is) (record {
-      law = λ p s. let q = tip_on_page v o a r e.early e.law p s in (q.0, ap answer.Tip q.1);
+      law = λ p s. let q = on_same_page v o a a r (λ k. Ok (tip_of k)) e.early e.law p s in (q.0, ap answer.Tip q.1);
       kind = (r, refl);
       same = λ p s h. unchanged v a a refl;
     })
