@@ -3,7 +3,7 @@
 
 ghost use Rattle.std.specs.Prelude.{◌≤◌};
 
-pub mod calls;
+mod calls;
 pub mod examples;
 pub mod fault;
 pub mod runs;

@@ -3,7 +3,7 @@ use Rattle.std.specs.List.{slice_get}
 use Rattle.coinsview.specs.Meaning.{next_in}
 use Rattle.ledger.specs.Book.{held_by}
 use Rattle.ledger.proofs.Balances.{summed, above}
-use Rattle.ledger.proofs.calls.balance_of.Given as goal
+use Rattle.ledger.proofs.calls.readings.balance_of.Given as goal
 
 -- the coins up to the last one are added up, and the rest stand above it
 abbrev pub invariant-loop-at : goal.invariant-loop-at

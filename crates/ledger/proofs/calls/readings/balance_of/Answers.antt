@@ -4,7 +4,7 @@ use Rattle.coins.specs.declared.coin.Coin.{Coin}
 use Rattle.coins.specs.declared.outpoint.Outpoint.{Outpoint}
 use Rattle.ledger.specs.Book.{held_by}
 use Rattle.ledger.proofs.Balances.{summed, above, above_found, found_above, turn, ended, within, none_past, held_bound, next_there}
-use Rattle.ledger.proofs.calls.balance_of.Goals as goal
+use Rattle.ledger.proofs.calls.readings.balance_of.Goals as goal
 
 pub with_coin-balance-requires : goal.with_coin-balance-requires
 with_coin-balance-requires g c =
