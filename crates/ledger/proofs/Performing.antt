@@ -11,7 +11,10 @@ use Rattle.ledger.specs.Book.{Terms, Book, fresh}
 use Rattle.ledger.proofs.Books.{stands_started}
 use Rattle.ledger.specs.Starting.{in_range, start_answer, start_terms}
 use Rattle.ledger.specs.Standing.{started, Stands, Early, Follows, Unchanged}
-use Rattle.ledger.specs.Pages.{Opens, Page, unstarted, standing, Waits, At, book_by, from_book, start_on, begun, begun_by}
+use Rattle.ledger.specs.Pages.{Opens, Page, unstarted, standing, Waits, At, book_by, from_book, start_on, begun, begun_by, page_after, answer_on}
+use Rattle.ledger.specs.Answers.{Granted, answer_to, changes}
+use Rattle.ledger.specs.PageLaws.{Performed}
+use Rattle.ledger.specs.declared.runs.Call.{Call}
 
 pub unchanged : {V C : Type 0} (v : ViewGhosts V) (a z : Ledger V C v) → z ≡ a → Unchanged v a z
 unchanged v a z e = record {
@@ -56,3 +59,18 @@ module _ {V C : Type 0} (v : ViewGhosts V) (c : ConditionGhosts C) where
   start_on_page x id a z r e same start (standing k) s =
       let is : r ≡ start_on (standing k) x = e ∙ ap (λ b. start_answer b (in_range x) (length (v.coins a.state.view))) (stands_started v c k a s) in
       (subst (Stands v c k) (sym (same (ap is_ok is))) s, is)
+
+  -- ---- any call
+
+  pub performs : (bytes : List ℕ) (x y : Call) (r : Result (Granted y) LedgerFault) (says : Page → Result (Granted y) LedgerFault) (a z : Ledger V C v)
+      → x ≡ y
+      → ((p : Page) → answer_on bytes y p ≡ answer_to y (says p))
+      → ((p : Page) → At v c p a → At v c (page_after bytes y p) z × (r ≡ says p))
+      → ((p : Page) → At v c p a → changes (answer_to y r) ≡ false → Unchanged v a z)
+      → Performed v c bytes x (answer_to y r) a z
+  performs bytes x y r says a z is told law same =
+      subst (λ u. Performed v c bytes u (answer_to y r) a z) (sym is) (record {
+        law = λ p s. let q = law p s in (q.0, ap (answer_to y) q.1 ∙ sym (told p));
+        kind = (r, refl);
+        same = same;
+      })
