@@ -1,14 +1,16 @@
 -- The turns of the walk over the coins. Assumes nothing.
-use Rattle.std.proofs.Common.{◌≡◌, ℕ, zero, suc, ◌+◌, ◌*◌, ◌<◌, ◌≤◌, Bool, true, false, cond, [], ◌∷◌, length, get_or, drop, Some, None, sym, refl, ap, ◌∙◌, arith}
+use Rattle.std.proofs.Common.{◌≡◌, ℕ, zero, suc, ◌+◌, ◌*◌, ◌<◌, ◌≤◌, Bool, true, false, cond, [], ◌∷◌, length, get_or, drop, Some, None, Option, sym, refl, ap, ◌∙◌, subst, arith}
 use Rattle.std.specs.List.{slice_get}
 use Rattle.std.proofs.lemmas.List.{at_drop_more, at_drop_all}
 use Rattle.coins.specs.declared.coin.Coin.{Coin}
 use Rattle.coins.specs.declared.coin.Lock.{Lock}
 use Rattle.coins.specs.declared.outpoint.Outpoint.{Outpoint}
 use Rattle.coins.specs.Same.{same_lock}
-use Rattle.maps.specs.Maps.{Sorted}
+use Rattle.maps.specs.Maps.{Sorted, place}
 use Rattle.maps.specs.Keyed.{outpoints}
+use Rattle.maps.proofs.Laws.{place_at}
 use Rattle.maps.proofs.Merged.{next_at}
+use Rattle.std.specs.Ordering.{MatchOrdering}
 use Rattle.coinsview.specs.Meaning.{Coins, next_in}
 use Rattle.ledger.specs.declared.Balance.{Balance}
 use Rattle.ledger.specs.Book.{one_held, held_by, with_held}
@@ -42,6 +44,27 @@ ended l m i a h inv =
 
 pub within : (m : Coins) (i : ℕ) (p : Outpoint × Coin) → slice_get m i ≡ Some p → i < length m
 within m i p h = (nth_there m i p h).0
+
+-- the place of the first coin above an outpoint, or of all
+abbrev pub above : Option Outpoint → Coins → ℕ
+above None m = 0
+above (Some k) m = place outpoints k m + 1
+
+pub above_found : (m : Coins) (i : ℕ) (p : Outpoint × Coin) → Sorted outpoints m → slice_get m i ≡ Some p → above (Some p.0) m ≡ i + 1
+above_found m i p s h =
+    let t = nth_there m i p h in
+    let same = ap (λ q. outpoints.cmp p.0 q.0) t.1 ∙ outpoints.itself p.0 in
+    let here = subst (λ r. MatchOrdering r (place outpoints p.0 m ≤ i) (place outpoints p.0 m ≡ i) (i < place outpoints p.0 m)) same (place_at outpoints p.0 m i p s t.0) in
+    ap (λ n. n + 1) here
+
+-- what the view answers above `last` is the coin at that place
+pub found_above : (m n : Coins) (last from : Option Outpoint) (r : Option (Outpoint × Coin)) → r ≡ next_in from n → from ≡ last → n ≡ m → next_in last m ≡ slice_get m (above last m) → slice_get m (above last m) ≡ r
+found_above m n last from r told same kept here = sym (told ∙ ap (λ x. next_in x n) same ∙ ap (next_in last) kept ∙ here)
+
+pub none_past : (m : Coins) (i : ℕ) → slice_get m i ≡ None → length m ≤ i
+none_past [] i h = omega arith
+none_past (q ∷ m) zero h = absurd (let z : ◌≡◌ {A = ℕ} 0 1 = cc in omega arith)
+none_past (q ∷ m) (suc i) h = let r = none_past m i h in omega arith
 
 pub no_more : {X : Type 0} (m : Coins) (i : ℕ) → i < length m → None ≡ slice_get m i → X
 no_more [] i l h = absurd (omega arith)

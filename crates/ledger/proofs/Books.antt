@@ -1,5 +1,5 @@
 -- What each call does to the ledger is what it does to the book. Assumes nothing.
-use Rattle.std.proofs.Common.{◌≡◌, ℕ, zero, suc, ◌+◌, ◌<◌, ◌≤◌, min, Bool, true, false, ◌&&◌, List, [], ◌∷◌, length, is_ok, Some, None, Ok, Err, Result, sym, refl, ap, ◌∙◌, subst, arith}
+use Rattle.std.proofs.Common.{◌≡◌, ℕ, zero, suc, ◌+◌, ◌<◌, ◌≤◌, min, Bool, true, false, ◌&&◌, List, [], ◌∷◌, length, is_ok, is_some, IsSomeAnd, Some, None, Option, Ok, Err, Result, sym, refl, ap, ◌∙◌, subst, arith}
 use Rattle.coinsview.specs.declared.view.CoinsView.{Ghosts as ViewGhosts}
 use Rattle.views.specs.declared.condition.SpendCondition.{Ghosts as ConditionGhosts}
 use Rattle.maps.specs.Maps.{Sorted}
@@ -16,10 +16,30 @@ use Rattle.connecting.specs.Subsidy.{subsidy_at}
 use Rattle.unwinding.specs.Undoing.{Back, undone, found, back}
 use Rattle.connecting.specs.Value.{value_in}
 use Rattle.connecting.proofs.Conserved.{then_ok, effect_value}
+use Rattle.ledger.specs.declared.ActiveChain.{ActiveChain}
 use Rattle.ledger.specs.declared.Ledger.{Ledger}
 use Rattle.ledger.specs.declared.fault.LedgerFault.{LedgerFault}
-use Rattle.ledger.specs.Book.{Terms, Book, tip_id, accept, coins_after, burned_by, replay, coins_of, all_burned, all_subsidies, entries_needed, settled}
-use Rattle.ledger.specs.Standing.{AllAccepted, Unwinds, Stands, Unchanged}
+use Rattle.ledger.specs.declared.fault.LedgerFault.TheVariants.{Nothing}
+use Rattle.ledger.specs.declared.Outcome.TheVariants.{Clean}
+use Rattle.ledger.specs.Book.{Terms, Book, tip_id, accept, coins_after, burned_by, replay, coins_of, all_burned, all_subsidies, entries_needed, disconnect_by, settled}
+use Rattle.ledger.specs.Standing.{AllAccepted, Unwinds, started, ChainOf, Stands, Unchanged}
+
+-- a disconnect is refused where no block is kept, and else answers the height
+pub none_kept : (bs : List BlockValue) (n : ℕ) → n ≡ 0 → disconnect_by bs n ≡ Err Nothing
+none_kept bs zero e = refl
+none_kept bs (suc n) e = absurd (omega arith)
+
+pub some_kept : (bs : List BlockValue) (n h : ℕ) → h ≡ length bs → (n ≡ 0 → ⊥) → disconnect_by bs n ≡ Ok (record { height = h; outcome = Clean })
+some_kept bs zero h e z = absurd (z refl)
+some_kept bs (suc n) h e z = ap (λ x. Ok (record { height = x; outcome = Clean })) (sym e)
+
+pub some_then : {X : Type 0} {P Q : X → Type 0} (o : Option X) → IsSomeAnd o P → ((x : X) → P x → Q x) → IsSomeAnd o Q
+some_then None h f = h
+some_then (Some x) h f = f x h
+
+some_since : {X : Type 0} (P : X → Type 0) (o : Option X) → IsSomeAnd o P → is_some o ≡ true
+some_since P None h = absurd h
+some_since P (Some x) h = refl
 
 pub clash : {X : Type 0} (b : Bool) → b ≡ true → b ≡ false → X
 clash b p q = let z : true ≡ false = sym p ∙ q in let y : ◌≡◌ {A = ℕ} 0 1 = cc in absurd (omega arith)
@@ -84,43 +104,47 @@ replay_value t (b ∷ bs) a =
 -- ---- ledgers that read alike
 
 module _ {V C : Type 0} (v : ViewGhosts V) (c : ConditionGhosts C) where
-  pub same_stands : (k : Book) (a z : Ledger V C) → Stands v c k a → Unchanged v a z → Stands v c k z
+  -- a ledger that stands by a book is started, and its active chain is the book's
+  pub stands_started : (k : Book) (l : Ledger V C v) → Stands v c k l → started l ≡ true
+  stands_started k l s = some_since (ChainOf k) l.active s.active
+
+  pub chain_of : (k : Book) (l : Ledger V C v) (h : ActiveChain) → l.active ≡ Some h → Stands v c k l → ChainOf k h
+  chain_of k l h e s = subst (λ o. IsSomeAnd o (ChainOf k)) e s.active
+
+  pub same_stands : (k : Book) (a z : Ledger V C v) → Stands v c k a → Unchanged v a z → Stands v c k z
   same_stands k a z s e = record {
-    started = e.started ∙ s.started;
+    active = subst (λ o. IsSomeAnd o (ChainOf k)) (sym e.active) s.active;
     room = e.room ∙ s.room;
     opens = ap c.opens e.condition ∙ s.opens;
-    halving = ap (λ x. x.halving) e.terms ∙ s.halving;
-    maturity = ap (λ x. x.maturity) e.terms ∙ s.maturity;
-    last = ap (λ x. x.last) e.terms ∙ s.last;
     coins = e.coins ∙ s.coins;
-    tip = ap (λ x. x.id) e.tip ∙ s.tip;
-    height = ap (λ x. x.height) e.tip ∙ s.height;
-    kept = e.kept ∙ s.kept;
     accepted = s.accepted;
-    chain = subst (Unwinds k.terms k.blocks k.kept) (sym e.chain) s.chain;
+    undo = subst (Unwinds k.terms k.blocks k.kept) (sym e.undo) s.undo;
   }
 
   -- a ledger that keeps a block finds its mark
-  pub mark_found : {X : Type 0} (k : Book) (a : Ledger V C) → Stands v c k a → (a.kept ≡ 0 → ⊥) → back (v.most a.view) (entries a.chain) (v.coins a.view) true ≡ None → X
-  mark_found k a s h e = unwinds_found k.terms k.blocks k.kept (entries a.chain) s.chain (λ z. h (s.kept ∙ z)) (ap (λ n. back n (entries a.chain) (coins_of k) true) (sym s.room) ∙ ap (λ m. back (v.most a.view) (entries a.chain) m true) (sym s.coins) ∙ e)
+  pub mark_found : {X : Type 0} (k : Book) (a : Ledger V C v) (h : ActiveChain) → a.active ≡ Some h → Stands v c k a → (h.kept ≡ 0 → ⊥) → back (v.most a.state.view) (entries a.state.undo) (v.coins a.state.view) true ≡ None → X
+  mark_found k a h i s n e = unwinds_found k.terms k.blocks k.kept (entries a.state.undo) s.undo (λ z. n ((chain_of k a h i s).kept ∙ z)) (ap (λ n. back n (entries a.state.undo) (coins_of k) true) (sym s.room) ∙ ap (λ m. back (v.most a.state.view) (entries a.state.undo) m true) (sym s.coins) ∙ e)
 
   -- fewer blocks are kept
-  pub settle_law : (k : Book) (a z : Ledger V C) (n : ℕ) → Stands v c k a → n < a.kept → z.started ≡ a.started → z.view ≡ a.view → z.condition ≡ a.condition → z.terms ≡ a.terms → z.tip ≡ a.tip → z.kept ≡ n → entries z.chain ≡ newest n (entries a.chain) → Stands v c (settled k n) z × (◌≡◌ {A = Result ℕ LedgerFault} (Ok n) (Ok (min n k.kept)))
-  settle_law k a z n s l zs zv zc zt zp zk ze =
-      let less : min n k.kept ≡ n = omega (arith, s.kept, l) in (
+  pub settle_law : (k : Book) (a z : Ledger V C v) (h w : ActiveChain) (n : ℕ) → a.active ≡ Some h → Stands v c k a → n < h.kept → z.state.view ≡ a.state.view → z.condition ≡ a.condition → z.active ≡ Some w → w.terms ≡ h.terms → w.tip ≡ h.tip → w.kept ≡ n → entries z.state.undo ≡ newest n (entries a.state.undo) → Stands v c (settled k n) z × (◌≡◌ {A = Result ℕ LedgerFault} (Ok n) (Ok (min n k.kept)))
+  settle_law k a z h w n i s l zv zc zw zt zp zk ze =
+      let t = chain_of k a h i s in
+      let less : min n k.kept ≡ n = omega (arith, t.kept, l) in
+      let chain : ChainOf (settled k n) w = record {
+        halving = ap (λ x. x.halving) zt ∙ t.halving;
+        maturity = ap (λ x. x.maturity) zt ∙ t.maturity;
+        last = ap (λ x. x.last) zt ∙ t.last;
+        tip = ap (λ x. x.id) zp ∙ t.tip;
+        height = ap (λ x. x.height) zp ∙ t.height;
+        kept = zk ∙ sym less;
+      } in (
         record {
-          started = zs ∙ s.started;
+          active = subst (λ o. IsSomeAnd o (ChainOf (settled k n))) (sym zw) chain;
           room = ap v.most zv ∙ s.room;
           opens = ap c.opens zc ∙ s.opens;
-          halving = ap (λ x. x.halving) zt ∙ s.halving;
-          maturity = ap (λ x. x.maturity) zt ∙ s.maturity;
-          last = ap (λ x. x.last) zt ∙ s.last;
           coins = ap v.coins zv ∙ s.coins;
-          tip = ap (λ x. x.id) zp ∙ s.tip;
-          height = ap (λ x. x.height) zp ∙ s.height;
-          kept = zk ∙ sym less;
           accepted = s.accepted;
-          chain = subst (λ j. Unwinds k.terms k.blocks j (entries z.chain)) (sym less) (subst (Unwinds k.terms k.blocks n) (sym ze) (unwinds_newest k.terms k.blocks k.kept n (entries a.chain) (omega (arith, s.kept, l)) s.chain));
+          undo = subst (λ j. Unwinds k.terms k.blocks j (entries z.state.undo)) (sym less) (subst (Unwinds k.terms k.blocks n) (sym ze) (unwinds_newest k.terms k.blocks k.kept n (entries a.state.undo) (omega (arith, t.kept, l)) s.undo));
         },
         ap Ok (sym less),
       )

@@ -1,5 +1,5 @@
 -- Connecting a block is what the book says. Assumes nothing.
-use Rattle.std.proofs.Common.{◌≡◌, ℕ, ◌+◌, ◌-◌, ◌<◌, ◌≤◌, Bool, true, false, cond, ltb, List, ◌∷◌, length, is_ok, Some, Ok, Err, Result, Ordering, Less, Equal, Greater, sym, refl, ap, ◌∙◌, subst, arith, le-ltb, lt-ltb}
+use Rattle.std.proofs.Common.{◌≡◌, ℕ, ◌+◌, ◌-◌, ◌<◌, ◌≤◌, Bool, true, false, cond, ltb, List, ◌∷◌, length, is_ok, IsSomeAnd, Some, Ok, Err, Result, Ordering, Less, Equal, Greater, sym, refl, ap, ◌∙◌, subst, arith, le-ltb, lt-ltb}
 use Rattle.std.specs.Cmp.Lexicographic.{slice_cmp}
 use Rattle.coins.proofs.Ordered.{lex_equal}
 use Rattle.coinsview.specs.declared.view.CoinsView.{Ghosts as ViewGhosts}
@@ -14,11 +14,12 @@ use Rattle.connecting.specs.declared.fault.BlockFault.TheVariants.{Parent, LastH
 use Rattle.connecting.specs.Rules.{Setting, then, equal, same_id, checks, transactions_checks, needs, effect}
 use Rattle.unwinding.specs.Undoing.{back}
 use Rattle.connecting.proofs.Conserved.{no_err, ok_same}
+use Rattle.ledger.specs.declared.ActiveChain.{ActiveChain}
 use Rattle.ledger.specs.declared.Ledger.{Ledger}
 use Rattle.ledger.specs.declared.Connected.{Connected}
 use Rattle.ledger.specs.Book.{Book, tip_id, accept, coins_after, replay, coins_of, entries_needed, of_form, connect_block, connect_bytes, with_block, told, connected}
-use Rattle.ledger.specs.Standing.{Stands, Unchanged}
-use Rattle.ledger.proofs.Books.{same_stands, chain_long}
+use Rattle.ledger.specs.Standing.{ChainOf, Stands, Unchanged}
+use Rattle.ledger.proofs.Books.{same_stands, chain_of, chain_long}
 use Rattle.std.specs.Ordering.{nat_cmp}
 
 -- ---- checks that passed, and checks that did not
@@ -46,54 +47,57 @@ checks_say tip h last b e =
     let q = test_yes (ltb h last) (transactions_checks b.transactions) LastHeight tt p.1 in
     (lex_equal b.previous tip (equal_is (slice_cmp nat_cmp b.previous tip) p.0), q.1)
 
-module _ {V C : Type 0} (v : ViewGhosts V) (c : ConditionGhosts C) (k : Book) (a : Ledger V C) (s : Stands v c k a) where
+module _ {V C : Type 0} (v : ViewGhosts V) (c : ConditionGhosts C) (k : Book) (a : Ledger V C v) (q : ActiveChain) (i : a.active ≡ Some q) (s : Stands v c k a) where
+  of_book : ChainOf k q
+  of_book = chain_of v c k a q i s
+
   -- what the effect of a block depends on, as the ledger has it
   held : Setting
-  held = record { room = v.most a.view; opens = c.opens a.condition; halving = a.terms.halving; maturity = a.terms.maturity }
+  held = record { room = v.most a.state.view; opens = c.opens a.condition; halving = q.terms.halving; maturity = q.terms.maturity }
 
   held_is : held ≡ k.terms.setting
   unfolding held
-  held_is = λ i. record { room = s.room i; opens = s.opens i; halving = s.halving i; maturity = s.maturity i }
+  held_is = λ i. record { room = s.room i; opens = s.opens i; halving = of_book.halving i; maturity = of_book.maturity i }
 
-  effect_is : (ts : List TransactionValue) → effect k.terms.setting (length k.blocks + 1) ts (coins_of k) ≡ effect held (a.tip.height + 1) ts (v.coins a.view)
+  effect_is : (ts : List TransactionValue) → effect k.terms.setting (length k.blocks + 1) ts (coins_of k) ≡ effect held (q.tip.height + 1) ts (v.coins a.state.view)
   effect_is ts =
       ap (λ x. effect x (length k.blocks + 1) ts (coins_of k)) (sym held_is)
-      ∙ ap (λ n. effect held (n + 1) ts (coins_of k)) (sym s.height)
-      ∙ ap (effect held (a.tip.height + 1) ts) (sym s.coins)
+      ∙ ap (λ n. effect held (n + 1) ts (coins_of k)) (sym of_book.height)
+      ∙ ap (effect held (q.tip.height + 1) ts) (sym s.coins)
 
-  checks_is : (b : BlockValue) → checks (tip_id k.terms k.blocks) (length k.blocks) k.terms.last b ≡ checks a.tip.id a.tip.height a.terms.last b
+  checks_is : (b : BlockValue) → checks (tip_id k.terms k.blocks) (length k.blocks) k.terms.last b ≡ checks q.tip.id q.tip.height q.terms.last b
   checks_is b =
-      ap (λ x. checks x (length k.blocks) k.terms.last b) (sym s.tip)
-      ∙ ap (λ n. checks a.tip.id n k.terms.last b) (sym s.height)
-      ∙ ap (λ n. checks a.tip.id a.tip.height n b) (sym s.last)
+      ap (λ x. checks x (length k.blocks) k.terms.last b) (sym of_book.tip)
+      ∙ ap (λ n. checks q.tip.id n k.terms.last b) (sym of_book.height)
+      ∙ ap (λ n. checks q.tip.id q.tip.height n b) (sym of_book.last)
 
   module _ (bytes : List ℕ) (b : BlockValue) (rd : read_block bytes ≡ Ok b) where
     by_block : connect_bytes k bytes ≡ then (connect_block k b) (λ r. Ok (b, r.1))
     by_block = ap (λ x. then (of_form x) (λ y. then (connect_block k y) (λ r. Ok (y, r.1)))) rd
 
-    pub check_refused : (f : BlockFault) → checks a.tip.id a.tip.height a.terms.last b ≡ Err f → connect_bytes k bytes ≡ Err f
+    pub check_refused : (f : BlockFault) → checks q.tip.id q.tip.height q.terms.last b ≡ Err f → connect_bytes k bytes ≡ Err f
     check_refused f h = by_block ∙ ap (λ x. then (then x (λ _. cond (ltb (512 - entries_needed k.blocks k.kept) (needs b)) (Err LogFull) (effect k.terms.setting (length k.blocks + 1) b.transactions (coins_of k)))) (λ r. Ok (b, r.1))) (checks_is b ∙ h)
 
-    module _ (ok : checks a.tip.id a.tip.height a.terms.last b ≡ Ok tt) where
-      past_checks : connect_bytes k bytes ≡ then (cond (ltb (512 - length (entries a.chain)) (needs b)) (Err LogFull) (effect held (a.tip.height + 1) b.transactions (v.coins a.view))) (λ r. Ok (b, r.1))
+    module _ (ok : checks q.tip.id q.tip.height q.terms.last b ≡ Ok tt) where
+      past_checks : connect_bytes k bytes ≡ then (cond (ltb (512 - length (entries a.state.undo)) (needs b)) (Err LogFull) (effect held (q.tip.height + 1) b.transactions (v.coins a.state.view))) (λ r. Ok (b, r.1))
       past_checks =
           by_block
           ∙ ap (λ x. then (then x (λ _. cond (ltb (512 - entries_needed k.blocks k.kept) (needs b)) (Err LogFull) (effect k.terms.setting (length k.blocks + 1) b.transactions (coins_of k)))) (λ r. Ok (b, r.1))) (checks_is b ∙ ok)
-          ∙ ap (λ n. then (cond (ltb (512 - n) (needs b)) (Err LogFull) (effect k.terms.setting (length k.blocks + 1) b.transactions (coins_of k))) (λ r. Ok (b, r.1))) (sym (chain_long k.terms k.blocks k.kept (entries a.chain) s.chain))
-          ∙ ap (λ x. then (cond (ltb (512 - length (entries a.chain)) (needs b)) (Err LogFull) x) (λ r. Ok (b, r.1))) (effect_is b.transactions)
+          ∙ ap (λ n. then (cond (ltb (512 - n) (needs b)) (Err LogFull) (effect k.terms.setting (length k.blocks + 1) b.transactions (coins_of k))) (λ r. Ok (b, r.1))) (sym (chain_long k.terms k.blocks k.kept (entries a.state.undo) s.undo))
+          ∙ ap (λ x. then (cond (ltb (512 - length (entries a.state.undo)) (needs b)) (Err LogFull) x) (λ r. Ok (b, r.1))) (effect_is b.transactions)
 
-      pub full_refused : 512 - length (entries a.chain) < needs b → connect_bytes k bytes ≡ Err LogFull
-      full_refused h = past_checks ∙ ap (λ x. then (cond x (Err LogFull) (effect held (a.tip.height + 1) b.transactions (v.coins a.view))) (λ r. Ok (b, r.1))) (lt-ltb _ _ h)
+      pub full_refused : 512 - length (entries a.state.undo) < needs b → connect_bytes k bytes ≡ Err LogFull
+      full_refused h = past_checks ∙ ap (λ x. then (cond x (Err LogFull) (effect held (q.tip.height + 1) b.transactions (v.coins a.state.view))) (λ r. Ok (b, r.1))) (lt-ltb _ _ h)
 
-      module _ (free : needs b ≤ 512 - length (entries a.chain)) where
-        past_room : connect_bytes k bytes ≡ then (effect held (a.tip.height + 1) b.transactions (v.coins a.view)) (λ r. Ok (b, r.1))
-        past_room = past_checks ∙ ap (λ x. then (cond x (Err LogFull) (effect held (a.tip.height + 1) b.transactions (v.coins a.view))) (λ r. Ok (b, r.1))) (le-ltb _ _ free)
+      module _ (free : needs b ≤ 512 - length (entries a.state.undo)) where
+        past_room : connect_bytes k bytes ≡ then (effect held (q.tip.height + 1) b.transactions (v.coins a.state.view)) (λ r. Ok (b, r.1))
+        past_room = past_checks ∙ ap (λ x. then (cond x (Err LogFull) (effect held (q.tip.height + 1) b.transactions (v.coins a.state.view))) (λ r. Ok (b, r.1))) (le-ltb _ _ free)
 
-        pub effect_refused : (f : BlockFault) → effect (record { room = v.most a.view; opens = c.opens a.condition; halving = a.terms.halving; maturity = a.terms.maturity }) (a.tip.height + 1) b.transactions (v.coins a.view) ≡ Err f → connect_bytes k bytes ≡ Err f
+        pub effect_refused : (f : BlockFault) → effect (record { room = v.most a.state.view; opens = c.opens a.condition; halving = q.terms.halving; maturity = q.terms.maturity }) (q.tip.height + 1) b.transactions (v.coins a.state.view) ≡ Err f → connect_bytes k bytes ≡ Err f
         unfolding held
         effect_refused f h = past_room ∙ ap (λ x. then x (λ r. Ok (b, r.1))) h
 
-        pub effect_accepted : (m : Coins) (z : Sums) → effect (record { room = v.most a.view; opens = c.opens a.condition; halving = a.terms.halving; maturity = a.terms.maturity }) (a.tip.height + 1) b.transactions (v.coins a.view) ≡ Ok (m, z) → (connect_bytes k bytes ≡ Ok (b, z)) × (accept k.terms k.blocks b (coins_of k) ≡ Ok (m, z))
+        pub effect_accepted : (m : Coins) (z : Sums) → effect (record { room = v.most a.state.view; opens = c.opens a.condition; halving = q.terms.halving; maturity = q.terms.maturity }) (q.tip.height + 1) b.transactions (v.coins a.state.view) ≡ Ok (m, z) → (connect_bytes k bytes ≡ Ok (b, z)) × (accept k.terms k.blocks b (coins_of k) ≡ Ok (m, z))
         unfolding held
         effect_accepted m z h = (
           past_room ∙ ap (λ x. then x (λ r. Ok (b, r.1))) h,
@@ -101,38 +105,40 @@ module _ {V C : Type 0} (v : ViewGhosts V) (c : ConditionGhosts C) (k : Book) (a
         )
 
   -- a refusal leaves the book, and the ledger as it reads
-  pub refused_law : (z : Ledger V C) (bytes : List ℕ) (f : BlockFault) → Unchanged v a z → connect_bytes k bytes ≡ Err f → Stands v c (connected k bytes) z × (◌≡◌ {A = Result Connected BlockFault} (Err f) (told k (connect_bytes k bytes)))
+  pub refused_law : (z : Ledger V C v) (bytes : List ℕ) (f : BlockFault) → Unchanged v a z → connect_bytes k bytes ≡ Err f → Stands v c (connected k bytes) z × (◌≡◌ {A = Result Connected BlockFault} (Err f) (told k (connect_bytes k bytes)))
   refused_law z bytes f e h = (subst (λ x. Stands v c (with_block k x) z) (sym h) (same_stands v c k a z s e), sym (ap (told k) h))
 
-  pub accepted_law : (z : Ledger V C) (bytes : List ℕ) (b : BlockValue) (m : Coins) (sums : Sums) → connect_bytes k bytes ≡ Ok (b, sums) → accept k.terms k.blocks b (coins_of k) ≡ Ok (m, sums) → b.previous ≡ a.tip.id
-      → z.started ≡ a.started → v.most z.view ≡ v.most a.view → z.condition ≡ a.condition → z.terms ≡ a.terms → v.coins z.view ≡ m → z.tip.id ≡ b.id → z.tip.height ≡ a.tip.height + 1 → z.kept ≡ a.kept + 1
-      → back (v.most a.view) (entries z.chain) (v.coins z.view) true ≡ Some (record { previous = b.previous; below = entries a.chain; coins = v.coins a.view; clean = true }) → length (entries z.chain) ≡ needs b + length (entries a.chain)
-      → Stands v c (connected k bytes) z × (◌≡◌ {A = Result Connected BlockFault} (Ok (record { height = a.tip.height + 1; made = sums.made; spent = sums.spent; fees = sums.fees; burned = sums.burned })) (told k (connect_bytes k bytes)))
-  accepted_law z bytes b m sums h acc pr zs zr zc zt zm zi zh zk zb zl =
-      let coins : v.coins z.view ≡ replay k.terms (b ∷ k.blocks) = zm ∙ sym (ap (λ x. coins_after x (coins_of k)) acc) in
+  pub accepted_law : (z : Ledger V C v) (w : ActiveChain) (bytes : List ℕ) (b : BlockValue) (m : Coins) (sums : Sums) → connect_bytes k bytes ≡ Ok (b, sums) → accept k.terms k.blocks b (coins_of k) ≡ Ok (m, sums) → b.previous ≡ q.tip.id
+      → v.most z.state.view ≡ v.most a.state.view → z.condition ≡ a.condition → z.active ≡ Some w → w.terms ≡ q.terms → v.coins z.state.view ≡ m → w.tip.id ≡ b.id → w.tip.height ≡ q.tip.height + 1 → w.kept ≡ q.kept + 1
+      → back (v.most a.state.view) (entries z.state.undo) (v.coins z.state.view) true ≡ Some (record { previous = b.previous; below = entries a.state.undo; coins = v.coins a.state.view; clean = true }) → length (entries z.state.undo) ≡ needs b + length (entries a.state.undo)
+      → Stands v c (connected k bytes) z × (◌≡◌ {A = Result Connected BlockFault} (Ok (record { height = q.tip.height + 1; made = sums.made; spent = sums.spent; fees = sums.fees; burned = sums.burned })) (told k (connect_bytes k bytes)))
+  accepted_law z w bytes b m sums h acc pr zr zc zw zt zm zi zh zk zb zl =
+      let coins : v.coins z.state.view ≡ replay k.terms (b ∷ k.blocks) = zm ∙ sym (ap (λ x. coins_after x (coins_of k)) acc) in
+      let more : ChainOf (with_block k (Ok (b, sums))) w = record {
+        halving = ap (λ x. x.halving) zt ∙ of_book.halving;
+        maturity = ap (λ x. x.maturity) zt ∙ of_book.maturity;
+        last = ap (λ x. x.last) zt ∙ of_book.last;
+        tip = zi;
+        height = omega (arith, zh, of_book.height);
+        kept = omega (arith, zk, of_book.kept);
+      } in
       let st : Stands v c (with_block k (Ok (b, sums))) z = record {
-        started = zs ∙ s.started;
+        active = subst (λ o. IsSomeAnd o (ChainOf (with_block k (Ok (b, sums))))) (sym zw) more;
         room = zr ∙ s.room;
         opens = ap c.opens zc ∙ s.opens;
-        halving = ap (λ x. x.halving) zt ∙ s.halving;
-        maturity = ap (λ x. x.maturity) zt ∙ s.maturity;
-        last = ap (λ x. x.last) zt ∙ s.last;
         coins = coins;
-        tip = zi;
-        height = omega (arith, zh, s.height);
-        kept = omega (arith, zk, s.kept);
         accepted = (ap is_ok acc, s.accepted);
-        chain = (
-          entries a.chain,
-          ap (λ x. back k.terms.setting.room (entries z.chain) x true) (sym coins)
-              ∙ ap (λ x. back x (entries z.chain) (v.coins z.view) true) (sym s.room)
+        undo = (
+          entries a.state.undo,
+          ap (λ x. back k.terms.setting.room (entries z.state.undo) x true) (sym coins)
+              ∙ ap (λ x. back x (entries z.state.undo) (v.coins z.state.view) true) (sym s.room)
               ∙ zb
-              ∙ ap (λ x. Some (record { previous = x; below = entries a.chain; coins = v.coins a.view; clean = true })) (pr ∙ s.tip)
-              ∙ ap (λ x. Some (record { previous = tip_id k.terms k.blocks; below = entries a.chain; coins = x; clean = true })) s.coins,
+              ∙ ap (λ x. Some (record { previous = x; below = entries a.state.undo; coins = v.coins a.state.view; clean = true })) (pr ∙ of_book.tip)
+              ∙ ap (λ x. Some (record { previous = tip_id k.terms k.blocks; below = entries a.state.undo; coins = x; clean = true })) s.coins,
           zl,
-          s.chain,
+          s.undo,
         );
       } in (
         subst (λ x. Stands v c (with_block k x) z) (sym h) st,
-        ap (λ n. Ok (record { height = n + 1; made = sums.made; spent = sums.spent; fees = sums.fees; burned = sums.burned })) s.height ∙ sym (ap (told k) h),
+        ap (λ n. Ok (record { height = n + 1; made = sums.made; spent = sums.spent; fees = sums.fees; burned = sums.burned })) of_book.height ∙ sym (ap (told k) h),
       )

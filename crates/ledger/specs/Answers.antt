@@ -14,7 +14,7 @@ use Rattle.ledger.specs.declared.runs.Answer.TheVariants as answer
 
 -- what a granted call answers
 abbrev pub Granted : Call → Type 0
-Granted (call.Start h m l id) = Unit {0}
+Granted (call.Start x id) = Unit {0}
 Granted (call.Connect from to) = Connected
 Granted call.Disconnect = Disconnected
 Granted (call.Settle n) = ℕ
@@ -26,7 +26,7 @@ Granted (call.Balance lock) = Balance
 
 -- the answer to a call
 abbrev pub answer_to : (c : Call) → Result (Granted c) LedgerFault → Answer
-answer_to (call.Start h m l id) r = answer.Start r
+answer_to (call.Start x id) r = answer.Start r
 answer_to (call.Connect from to) r = answer.Connect r
 answer_to call.Disconnect r = answer.Disconnect r
 answer_to (call.Settle n) r = answer.Settle r

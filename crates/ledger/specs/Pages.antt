@@ -6,6 +6,7 @@ use Rattle.coins.specs.declared.coin.Lock.{Lock}
 use Rattle.coinsview.specs.Meaning.{Coins, coin_at, next_in}
 use Rattle.coinsview.specs.declared.view.CoinsView.{Ghosts as ViewGhosts}
 use Rattle.views.specs.declared.condition.SpendCondition.{Ghosts as ConditionGhosts}
+use Rattle.ledger.specs.declared.terms.Parameters.{Parameters}
 use Rattle.ledger.specs.declared.Ledger.{Ledger}
 use Rattle.ledger.specs.declared.fault.LedgerFault.{LedgerFault}
 use Rattle.ledger.specs.declared.fault.LedgerFault.TheVariants as fault
@@ -16,7 +17,7 @@ use Rattle.ledger.specs.declared.runs.Answer.TheVariants as answer
 use Rattle.ledger.specs.Book.{Terms, Book, fresh, connected, connect_answer, disconnected, disconnect_answer, settled, tip_of, coins_of, held_by}
 use Rattle.ledger.specs.Starting.{in_range, start_answer, start_terms}
 use Rattle.ledger.specs.Runs.{part}
-use Rattle.ledger.specs.Standing.{Stands}
+use Rattle.ledger.specs.Standing.{started, Stands}
 
 -- when a witness opens a lock at a height
 abbrev pub Opens : Type 0
@@ -28,14 +29,14 @@ pub data Page : Type 0 where
   standing : Book → Page
 
 -- the ledger l is not started, over a view with the capacity n and the coins m, and over the condition o
-pub record Waits {V C : Type 0} (v : ViewGhosts V) (c : ConditionGhosts C) (n : ℕ) (o : Opens) (m : Coins) (l : Ledger V C) : Type 0 where
-  pub started : l.started ≡ false
-  pub room : v.most l.view ≡ n
+pub record Waits {V C : Type 0} (v : ViewGhosts V) (c : ConditionGhosts C) (n : ℕ) (o : Opens) (m : Coins) (l : Ledger V C v) : Type 0 where
+  pub started : started l ≡ false
+  pub room : v.most l.state.view ≡ n
   pub opens : c.opens l.condition ≡ o
-  pub coins : v.coins l.view ≡ m
+  pub coins : v.coins l.state.view ≡ m
 
 -- the ledger l is on a page
-abbrev pub At : {V C : Type 0} → ViewGhosts V → ConditionGhosts C → Page → Ledger V C → Type 0
+abbrev pub At : {V C : Type 0} (v : ViewGhosts V) → ConditionGhosts C → Page → Ledger V C v → Type 0
 At v c (unstarted n o m) l = Waits v c n o m l
 At v c (standing k) l = Stands v c k l
 
@@ -51,21 +52,21 @@ from_book f (unstarted n o m) = Err fault.NotStarted
 from_book f (standing k) = f k
 
 -- a start, which a started ledger refuses
-abbrev pub start_on : Page → ℕ → ℕ → ℕ → Result Unit LedgerFault
-start_on (unstarted n o m) h a l = start_answer false (in_range h a l) (length m)
-start_on (standing k) h a l = Err fault.Started
+abbrev pub start_on : Page → Parameters → Result Unit LedgerFault
+start_on (unstarted n o m) x = start_answer false (in_range x) (length m)
+start_on (standing k) x = Err fault.Started
 
 abbrev pub begun_by : Result Unit LedgerFault → Page → Terms → Page
 begun_by (Ok u) p t = standing (fresh t)
 begun_by (Err f) p t = p
 
-abbrev pub begun : Page → ℕ → ℕ → ℕ → List ℕ → Page
-begun (unstarted n o m) h a l id = begun_by (start_answer false (in_range h a l) (length m)) (unstarted n o m) (start_terms n o h a l id)
-begun (standing k) h a l id = standing k
+abbrev pub begun : Page → Parameters → List ℕ → Page
+begun (unstarted n o m) x id = begun_by (start_answer false (in_range x) (length m)) (unstarted n o m) (start_terms n o x id)
+begun (standing k) x id = standing k
 
 -- the page after a call that is given some bytes
 abbrev pub page_after : List ℕ → Call → Page → Page
-page_after bytes (call.Start h a l id) p = begun p h a l id
+page_after bytes (call.Start x id) p = begun p x id
 page_after bytes (call.Connect from to) p = book_by (λ k. connected k (part from to bytes)) p
 page_after bytes call.Disconnect p = book_by disconnected p
 page_after bytes (call.Settle n) p = book_by (λ k. settled k n) p
@@ -77,7 +78,7 @@ page_after bytes (call.Balance lock) p = p
 
 -- what the call answers
 abbrev pub answer_on : List ℕ → Call → Page → Answer
-answer_on bytes (call.Start h a l id) p = answer.Start (start_on p h a l)
+answer_on bytes (call.Start x id) p = answer.Start (start_on p x)
 answer_on bytes (call.Connect from to) p = answer.Connect (from_book (λ k. connect_answer k (part from to bytes)) p)
 answer_on bytes call.Disconnect p = answer.Disconnect (from_book disconnect_answer p)
 answer_on bytes (call.Settle n) p = answer.Settle (from_book (λ k. Ok (min n k.kept)) p)

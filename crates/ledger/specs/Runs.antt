@@ -14,7 +14,7 @@ part from to bytes = drop from (take to bytes)
 
 -- the book after a call that is given some bytes
 abbrev pub book_after : List ℕ → Call → Book → Book
-book_after bytes (call.Start h m l id) k = k
+book_after bytes (call.Start x id) k = k
 book_after bytes (call.Connect from to) k = connected k (part from to bytes)
 book_after bytes call.Disconnect k = disconnected k
 book_after bytes (call.Settle n) k = settled k n
@@ -26,7 +26,7 @@ book_after bytes (call.Balance lock) k = k
 
 -- what the call answers
 abbrev pub answer_of : List ℕ → Call → Book → Answer
-answer_of bytes (call.Start h m l id) k = answer.Start (Err fault.Started)
+answer_of bytes (call.Start x id) k = answer.Start (Err fault.Started)
 answer_of bytes (call.Connect from to) k = answer.Connect (connect_answer k (part from to bytes))
 answer_of bytes call.Disconnect k = answer.Disconnect (disconnect_answer k)
 answer_of bytes (call.Settle n) k = answer.Settle (Ok (min n k.kept))

@@ -1,6 +1,5 @@
 // Why a call on the ledger is refused.
 ghost use Rattle.std.specs.Prelude.{◌≡◌};
-ghost use Rattle.connecting.specs.Refusals.{placed};
 ghost use Rattle.ledger.specs.Refusals.{ledger_refusal};
 ghost use Rattle.ledger.specs.declared.fault.LedgerFault.TheVariants.{Block as OfBlock};
 
@@ -25,27 +24,17 @@ impl From<BlockFault> for LedgerFault {
     }
 }
 
-fn bare(reason: Reason) -> Refusal
-    ensures { result ≡ placed reason 0 0 }
-{
-    Refusal {
-        reason,
-        first: 0,
-        second: 0,
-    }
-}
+// The reason and the place of the fault.
+impl From<LedgerFault> for Refusal {
+    ghost from_gives = { λ f r. r ≡ ledger_refusal f };
 
-impl LedgerFault {
-    // The number, word, layer and place of the fault.
-    pub fn refusal(self) -> Refusal
-        ensures { result ≡ ledger_refusal self }
-    {
-        match self {
-            LedgerFault::Nothing => bare(Reason::Nothing),
-            LedgerFault::Parameter => bare(Reason::Parameter),
-            LedgerFault::NotEmpty => bare(Reason::NotEmpty),
-            LedgerFault::Started => bare(Reason::Started),
-            LedgerFault::NotStarted => bare(Reason::NotStarted),
+    fn from(f: LedgerFault) -> Refusal {
+        match f {
+            LedgerFault::Nothing => Refusal::from(Reason::Nothing),
+            LedgerFault::Parameter => Refusal::from(Reason::Parameter),
+            LedgerFault::NotEmpty => Refusal::from(Reason::NotEmpty),
+            LedgerFault::Started => Refusal::from(Reason::Started),
+            LedgerFault::NotStarted => Refusal::from(Reason::NotStarted),
             LedgerFault::Block(f) => f.refusal(),
         }
     }

@@ -3,14 +3,15 @@
 
 ghost use Rattle.std.specs.Prelude.{◌≤◌};
 
-pub mod calls;
+mod calls;
 pub mod examples;
 pub mod fault;
 pub mod runs;
 pub mod terms;
 
 use crate::terms::Terms;
-use undo::Undo;
+use coinsview::view::CoinsView;
+use unwinding::chainstate::Chainstate;
 
 // The last connected block, or the start: its identifier and height.
 #[derive(Clone, Copy, PartialEq, Eq, Debug)]
@@ -50,14 +51,19 @@ pub struct Balance {
     pub value: u64,
 }
 
-#[derive(Drop)]
-pub struct Ledger<V, C> {
-    view: V,
-    condition: C,
-    chain: Undo,
+// The blocks that stand: what the ledger was started with, the tip, and how many of the newest have their undo entries.
+#[derive(Clone, Copy)]
+struct ActiveChain {
     terms: Terms,
     tip: Tip,
     kept: u32,
-    started: bool,
     ghost counts: { kept ≤ tip.height },
+}
+
+// A ledger has an active chain once it is started.
+#[derive(Drop)]
+pub struct Ledger<V: CoinsView, C> {
+    state: Chainstate<V>,
+    condition: C,
+    active: Option<ActiveChain>,
 }

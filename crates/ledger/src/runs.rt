@@ -5,12 +5,13 @@ ghost use Rattle.ledger.specs.Laws.{Laws};
 ghost use Rattle.ledger.specs.PageLaws.{PageLaws, Performed};
 ghost use Rattle.ledger.specs.Pages.{Page, At};
 ghost use Rattle.ledger.specs.Runs.{book_after, answer_of, part as part_of};
-ghost use Rattle.ledger.specs.Standing.{Stands, Follows};
+ghost use Rattle.ledger.specs.Standing.{started, Stands, Follows};
 ghost use Rattle.ledger.specs.declared.runs.Answer.{Answer as Said};
 ghost use Rattle.ledger.specs.declared.runs.Call.{Call as Asked};
 ghost use Rattle.ledger.specs.declared.runs.Call.TheVariants.{Flush as FlushCall};
 
 use crate::fault::LedgerFault;
+use crate::terms::Parameters;
 use crate::{Balance, Connected, Disconnected, Ledger, Tip};
 use coins::coin::{Coin, Lock};
 use coins::outpoint::Outpoint;
@@ -21,9 +22,7 @@ use views::condition::SpendCondition;
 #[derive(Clone, Copy)]
 pub enum Call {
     Start {
-        halving: u64,
-        maturity: u64,
-        last: u64,
+        parameters: Parameters,
         id: [u8; 32],
     },
     Connect {
@@ -58,25 +57,17 @@ fn part(bytes: &[u8], from: usize, to: usize) -> &[u8]
     ensures { result.now ≡ part_of from to bytes.now }
 {
     let end = to.min(bytes.len());
-    let start = from.min(end);
-    bytes.split_at(end).0.split_at(start).1
+    &bytes[from.min(end)..end]
 }
 
 impl<V: CoinsView, C: SpendCondition> Ledger<V, C> {
     // Makes one call.
     fn make(&mut self, bytes: &[u8], call: Call) -> Answer
-        requires { V.CoinsView.ok self.old.view }
-        ensures ok { V.CoinsView.ok self.new.view }
         ensures performed { Performed V.CoinsView C.SpendCondition bytes.now call result self.old self.new }
-        ensures bottom { call ≡ FlushCall → self.old.started ≡ true → V.CoinsView.bottom self.new.view ≡ V.CoinsView.coins self.new.view }
+        ensures bottom { call ≡ FlushCall → started self.old ≡ true → V.CoinsView.bottom self.new.state.view ≡ V.CoinsView.coins self.new.state.view }
     {
         match call {
-            Call::Start {
-                halving,
-                maturity,
-                last,
-                id,
-            } => Answer::Start(self.start(halving, maturity, last, &id)),
+            Call::Start { parameters, id } => Answer::Start(self.start(parameters, &id)),
             Call::Connect { from, to } => Answer::Connect(self.connect(part(bytes, from, to))),
             Call::Disconnect => Answer::Disconnect(self.disconnect()),
             Call::Settle(n) => Answer::Settle(self.settle(n)),
@@ -90,10 +81,8 @@ impl<V: CoinsView, C: SpendCondition> Ledger<V, C> {
 
     // Performs one call. Whatever calls came before it, the laws over runs hold after it too.
     pub fn perform(&mut self, bytes: &[u8], call: Call) -> Answer
-        requires { V.CoinsView.ok self.old.view }
-        ensures ok { V.CoinsView.ok self.new.view }
         ensures law { Follows V.CoinsView C.SpendCondition self.old self.new result (book_after bytes.now call) (answer_of bytes.now call) }
-        ensures bottom { call ≡ FlushCall → self.old.started ≡ true → V.CoinsView.bottom self.new.view ≡ V.CoinsView.coins self.new.view }
+        ensures bottom { call ≡ FlushCall → started self.old ≡ true → V.CoinsView.bottom self.new.state.view ≡ V.CoinsView.coins self.new.state.view }
         ensures performed { Performed V.CoinsView C.SpendCondition bytes.now call result self.old self.new }
         ensures page_laws { (p : Page) (cs : List Asked) (said : List Said) → PageLaws V.CoinsView C.SpendCondition p bytes.now cs said self.old → PageLaws V.CoinsView C.SpendCondition p bytes.now (cs ++ (call ∷ [])) (said ++ (result ∷ [])) self.new }
     {
@@ -102,18 +91,15 @@ impl<V: CoinsView, C: SpendCondition> Ledger<V, C> {
 
     // Performs calls in order and notes their answers, as many as both lists have. Answers how many.
     pub fn run(&mut self, bytes: &[u8], calls: &[Call], answers: &mut [Answer]) -> usize
-        requires { V.CoinsView.ok self.old.view }
-        ensures ok { V.CoinsView.ok self.new.view }
         ensures count { result ≡ min (length calls.now) (length answers.old) }
         ensures laws { (k : Book) → Stands V.CoinsView C.SpendCondition k self.old → Laws V.CoinsView C.SpendCondition k bytes.now (take result calls.now) (take result answers.new) self.new }
         ensures page_laws { (p : Page) → At V.CoinsView C.SpendCondition p self.old → PageLaws V.CoinsView C.SpendCondition p bytes.now (take result calls.now) (take result answers.new) self.new }
     {
-        let mut done = 0;
-        while done < calls.len() && done < answers.len() {
-            let answer = self.perform(bytes, calls[done]);
-            answers[done] = answer;
-            done += 1;
+        // By index: of the elements that an adapter of `iter_mut` wrote, no proof knows anything.
+        let count = calls.len().min(answers.len());
+        for i in 0..count {
+            answers[i] = self.perform(bytes, calls[i]);
         }
-        done
+        count
     }
 }

@@ -4,6 +4,7 @@ use coins::coin::{Coin, Lock};
 use coins::outpoint::Outpoint;
 use coinsview::view::CoinsView;
 use ledger::fault::LedgerFault;
+use ledger::terms::Parameters;
 use ledger::{Balance, Connected, Disconnected, Ledger, Outcome};
 use refusal::{Reason, Refusal};
 use views::condition::SpendCondition;
@@ -125,17 +126,19 @@ fn try_call<V: CoinsView, C: SpendCondition>(
     ledger: &mut Ledger<V, C>,
     blocks: &[Vec<u8>],
     call: Call,
-) -> Result<Answer, LedgerFault>
-    requires { V.CoinsView.ok ledger.old.view }
-    ensures { V.CoinsView.ok ledger.new.view }
-{
+) -> Result<Answer, LedgerFault> {
     let answer = match call {
         Call::Start {
             halving,
             maturity,
             last,
         } => {
-            ledger.start(halving, maturity, last, &id(0))?;
+            let parameters = Parameters {
+                halving,
+                maturity,
+                last,
+            };
+            ledger.start(parameters, &id(0))?;
             Answer::Done
         }
         Call::Connect(at) => {
@@ -172,13 +175,10 @@ pub fn perform<V: CoinsView, C: SpendCondition>(
     ledger: &mut Ledger<V, C>,
     blocks: &[Vec<u8>],
     call: Call,
-) -> Answer
-    requires { V.CoinsView.ok ledger.old.view }
-    ensures { V.CoinsView.ok ledger.new.view }
-{
+) -> Answer {
     match try_call(ledger, blocks, call) {
         Ok(answer) => answer,
-        Err(fault) => Answer::Refused(fault.refusal()),
+        Err(fault) => Answer::Refused(fault.into()),
     }
 }
 

@@ -20,10 +20,7 @@ pub struct State {
 fn coins_of<V: CoinsView, C: SpendCondition>(
     heap: Global,
     ledger: &mut Ledger<V, C>,
-) -> Result<Vec<(Outpoint, Coin)>, AllocError>
-    requires { V.CoinsView.ok ledger.old.view }
-    ensures { V.CoinsView.ok ledger.new.view }
-{
+) -> Result<Vec<(Outpoint, Coin)>, AllocError> {
     let mut coins = Vec::new(heap);
     let mut last = None;
     for _ in 0..MANY {
@@ -40,10 +37,7 @@ fn coins_of<V: CoinsView, C: SpendCondition>(
 pub fn state_of<V: CoinsView, C: SpendCondition>(
     heap: Global,
     ledger: &mut Ledger<V, C>,
-) -> Result<State, AllocError>
-    requires { V.CoinsView.ok ledger.old.view }
-    ensures { V.CoinsView.ok ledger.new.view }
-{
+) -> Result<State, AllocError> {
     let coins = coins_of(heap, ledger)?;
     Ok(State {
         tip: ledger.tip().ok(),

@@ -15,18 +15,19 @@ abbrev pub is_clean : Outcome → Bool
 is_clean Clean = true
 is_clean Unclean = false
 
+-- the line of what a granted call gave, or the refusal
+abbrev pub line_by : {X : Type 0} → (X → Line) → Result X LedgerFault → Line
+line_by f (Ok x) = f x
+line_by f (Err e) = line.Refused (ledger_refusal e)
+
 abbrev pub start_line : Result (Unit {0}) LedgerFault → Line
-start_line (Ok t) = line.Start
-start_line (Err f) = line.Refused (ledger_refusal f)
+start_line r = line_by (λ t. line.Start) r
 
 abbrev pub connect_line : Result Connected LedgerFault → Line
-connect_line (Ok r) = line.Connect r.height r.made r.spent r.fees r.burned
-connect_line (Err f) = line.Refused (ledger_refusal f)
+connect_line r = line_by (λ d. line.Connect d.height d.made d.spent d.fees d.burned) r
 
 abbrev pub disconnect_line : Result Disconnected LedgerFault → Line
-disconnect_line (Ok r) = line.Disconnect r.height (is_clean r.outcome)
-disconnect_line (Err f) = line.Refused (ledger_refusal f)
+disconnect_line r = line_by (λ d. line.Disconnect d.height (is_clean d.outcome)) r
 
 abbrev pub balance_line : Lock → Result Balance LedgerFault → Line
-balance_line k (Ok r) = line.Balance k.kind k.argument r.coins r.value
-balance_line k (Err f) = line.Refused (ledger_refusal f)
+balance_line k r = line_by (λ b. line.Balance k.kind k.argument b.coins b.value) r

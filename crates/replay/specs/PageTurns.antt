@@ -12,6 +12,7 @@ use Rattle.blockfile.specs.declared.fault.FileFault.{FileFault}
 use Rattle.blockform.specs.Faults.{file_refusal}
 use Rattle.blockform.specs.File.{record_at}
 use Rattle.ledger.specs.declared.Ledger.{Ledger}
+use Rattle.ledger.specs.declared.terms.Parameters.{Parameters}
 use Rattle.ledger.specs.declared.runs.Call.{Call}
 use Rattle.ledger.specs.declared.runs.Call.TheVariants as call
 use Rattle.ledger.specs.declared.runs.Answer.{Answer}
@@ -31,6 +32,9 @@ use Rattle.replay.specs.Turns.{parsed, place_after, texts}
 abbrev pub start_id : List ℕ
 start_id = replicate 32 0
 
+abbrev pub parameters : ℕ → ℕ → ℕ → Parameters
+parameters h m l = record { halving = h; maturity = m; last = l }
+
 abbrev pub lock_of : ℕ → ℕ → Lock
 lock_of k a = record { kind = k; argument = a }
 
@@ -43,7 +47,7 @@ connect_call p (Err e) = []
 
 -- the call that a command makes; '+' makes none where there is no record
 abbrev pub calls_for : List ℕ → ℕ → Command → List Call
-calls_for file p (Start h m l) = call.Start h m l start_id ∷ []
+calls_for file p (Start h m l) = call.Start (parameters h m l) start_id ∷ []
 calls_for file p Connect = connect_call p (record_at file p)
 calls_for file p Disconnect = call.Disconnect ∷ []
 calls_for file p (Balance k a) = call.Balance (lock_of k a) ∷ []
@@ -55,7 +59,7 @@ record_line q (Err e) = Refused (file_refusal e)
 
 -- the line that a command prints
 abbrev pub line_for : List ℕ → ℕ → Command → Page → Line
-line_for file p (Start h m l) q = start_line (start_on q h m l)
+line_for file p (Start h m l) q = start_line (start_on q (parameters h m l))
 line_for file p Connect q = record_line q (record_at file p)
 line_for file p Disconnect q = disconnect_line (from_book disconnect_answer q)
 line_for file p (Balance k a) q = balance_line (lock_of k a) (from_book (λ b. Ok (held_by (lock_of k a) (coins_of b))) q)
@@ -99,10 +103,10 @@ printout file script q = cond (nat_lt 65536 (length file)) (line_text too_long) 
 -- ---- what a part of a run does to a ledger
 
 -- Whatever page the ledger a is on and whatever calls brought it there, z is the ledger after the calls ds more, and the laws over runs hold of it.
-abbrev pub RunsOn : {V C : Type 0} → ViewGhosts V → ConditionGhosts C → List ℕ → List Call → Ledger V C → Ledger V C → Type 0
+abbrev pub RunsOn : {V C : Type 0} (v : ViewGhosts V) → ConditionGhosts C → List ℕ → List Call → Ledger V C v → Ledger V C v → Type 0
 RunsOn v c file ds a z = (q : Page) (cs : List Call) (said : List Answer) → PageLaws v c q file cs said a → (more : List Answer) × PageLaws v c q file (cs ++ ds) (said ++ more) z
 
 -- The calls ds take the ledger a to z, and the line x is what the page of a says.
-pub record PageTurn {V C : Type 0} (v : ViewGhosts V) (c : ConditionGhosts C) (file : List ℕ) (ds : List Call) (says : Page → Line) (x : Line) (a z : Ledger V C) : Type 0 where
+pub record PageTurn {V C : Type 0} (v : ViewGhosts V) (c : ConditionGhosts C) (file : List ℕ) (ds : List Call) (says : Page → Line) (x : Line) (a z : Ledger V C v) : Type 0 where
   pub line : (q : Page) → At v c q a → x ≡ says q
   pub runs : RunsOn v c file ds a z

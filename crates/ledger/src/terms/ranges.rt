@@ -1,24 +1,30 @@
 // The ranges of what a ledger is started with.
-ghost use Rattle.std.specs.Prelude.{◌≡◌, true, false, MatchOption};
+ghost use Rattle.std.specs.Prelude.{◌≡◌, true, false, MatchResult};
 ghost use Rattle.ledger.specs.Starting.{in_range};
+ghost use Rattle.ledger.specs.declared.fault.LedgerFault.TheVariants.{Parameter};
 
-use super::Terms;
+use super::{Parameters, Terms};
+use crate::fault::LedgerFault;
 
-impl Terms {
-    // The terms, unless one of the numbers is out of its range.
-    pub fn new(halving: u64, maturity: u64, last: u64) -> Option<Terms>
-        ensures { MatchOption result (in_range halving maturity last ≡ false) (λ t. (in_range halving maturity last ≡ true) × (t.halving ≡ halving) × (t.maturity ≡ maturity) × (t.last ≡ last)) }
-    {
-        if halving < 1
-            || halving > 210_000
-            || maturity < 1
-            || maturity > 100
-            || last < 1
-            || last > 4_294_967_295
-        {
-            return None;
+// The terms, unless one of the numbers is out of its range.
+impl TryFrom<Parameters> for Terms {
+    type Error = LedgerFault;
+
+    ghost try_from_gives = { λ p r. MatchResult r (λ t. (in_range p ≡ true) × (t.halving ≡ p.halving) × (t.maturity ≡ p.maturity) × (t.last ≡ p.last)) (λ f. (in_range p ≡ false) × (f ≡ Parameter)) };
+
+    fn try_from(parameters: Parameters) -> Result<Terms, LedgerFault> {
+        let Parameters {
+            halving,
+            maturity,
+            last,
+        } = parameters;
+        let in_range = (1..=210_000).contains(&halving)
+            && (1..=100).contains(&maturity)
+            && (1..=4_294_967_295).contains(&last);
+        if !in_range {
+            return Err(LedgerFault::Parameter);
         }
-        Some(Terms {
+        Ok(Terms {
             halving: halving as u32,
             maturity: maturity as u32,
             last: last as u32,

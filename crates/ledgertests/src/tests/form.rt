@@ -9,6 +9,7 @@ use coinsview::table::FlatTable;
 use coinsview::view::CoinsView;
 use compact::{ShortBuffer, write_size};
 use ledger::Ledger;
+use ledger::terms::Parameters;
 use refusal::{Layer, Reason, Refusal};
 use std::alloc::{AllocError, Global};
 use std::test::Fail;
@@ -83,11 +84,16 @@ const CELL: (Outpoint, Coin) = (
 fn connect_zeros(heap: Global, count: usize) -> Result<Refusal, Fail> {
     let mut cells = [CELL; 2];
     let mut ledger = Ledger::new(FlatTable::new(&mut cells), Badge);
-    check(ledger.start(1, 1, 1, &id(0)).is_ok(), "start")?;
+    let parameters = Parameters {
+        halving: 1,
+        maturity: 1,
+        last: 1,
+    };
+    check(ledger.start(parameters, &id(0)).is_ok(), "start")?;
     let zeros = vec![in heap; 0u8; count]?;
     match ledger.connect(zeros.as_slice()) {
         Ok(_) => Err(Fail::new("connected")),
-        Err(fault) => Ok(fault.refusal()),
+        Err(fault) => Ok(Refusal::from(fault)),
     }
 }
 

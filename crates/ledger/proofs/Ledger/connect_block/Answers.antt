@@ -14,14 +14,14 @@ returns-in_err-needed g c =
     let v = g.V.CoinsView in
     let o = g.C.SpendCondition in
     let a = c.args.self.now in
+    let q = c.args.chain in
     let b = block_of c.in_ok-block.block in
     let p = err_from_is_err_and c.from_residual-in_err-needed.result c.from_residual-in_err-needed.ensures.1 in
-    let stop = then_stopped (checks a.tip.id a.tip.height a.terms.last b) (needs b) _ (sym c.in_err-needed.was ∙ c.check_block.ensures.is) in
+    let stop = then_stopped (checks q.tip.id q.tip.height q.terms.last b) (needs b) _ (sym c.in_err-needed.was ∙ c.check_block.ensures.is) in
     record {
-      ok = c.requires;
       same = λ h. unchanged v a a refl;
       law = λ k s.
-          let r = refused_law v o k a s a c.args.bytes.now _ (unchanged v a a refl) (check_refused v o k a s c.args.bytes.now b c.in_ok-block.ensures.reads _ stop) in
+          let r = refused_law v o k a q c.requires s a c.args.bytes.now _ (unchanged v a a refl) (check_refused v o k a q c.requires s c.args.bytes.now b c.in_ok-block.ensures.reads _ stop) in
           (r.0, p.1 ∙ ap Err p.2 ∙ r.1);
     }
 
@@ -30,24 +30,24 @@ returns-then-needed-free g c =
     let v = g.V.CoinsView in
     let o = g.C.SpendCondition in
     let a = c.args.self.now in
+    let q = c.args.chain in
     let b = block_of c.in_ok-block.block in
-    let pass = then_passed (checks a.tip.id a.tip.height a.terms.last b) (needs b) _ (sym c.in_ok-needed.was ∙ c.check_block.ensures.is) in
-    let less : 512 - length (entries a.chain) < needs b = omega (arith, pass.1, c.free.ensures, c.if-needed-free.true) in
+    let pass = then_passed (checks q.tip.id q.tip.height q.terms.last b) (needs b) _ (sym c.in_ok-needed.was ∙ c.check_block.ensures.is) in
+    let less : 512 - length (entries a.state.undo) < needs b = omega (arith, pass.1, c.free.ensures, c.if-needed-free.true) in
     record {
-      ok = c.requires;
       same = λ h. unchanged v a a refl;
       law = λ k s.
-          refused_law v o k a s a c.args.bytes.now _ (unchanged v a a refl) (full_refused v o k a s c.args.bytes.now b c.in_ok-block.ensures.reads pass.0 less);
+          refused_law v o k a q c.requires s a c.args.bytes.now _ (unchanged v a a refl) (full_refused v o k a q c.requires s c.args.bytes.now b c.in_ok-block.ensures.reads pass.0 less);
     }
 
 pub apply-requires : goal.apply-requires
 apply-requires g c =
     let a = c.args.self.now in
+    let q = c.args.chain in
     let b = block_of c.in_ok-block.block in
-    let pass = then_passed (checks a.tip.id a.tip.height a.terms.last b) (needs b) _ (sym c.in_ok-needed.was ∙ c.check_block.ensures.is) in
-    let say = checks_say a.tip.id a.tip.height a.terms.last b pass.0 in
+    let pass = then_passed (checks q.tip.id q.tip.height q.terms.last b) (needs b) _ (sym c.in_ok-needed.was ∙ c.check_block.ensures.is) in
+    let say = checks_say q.tip.id q.tip.height q.terms.last b pass.0 in
     record {
-      well = c.requires;
       good = c.in_ok-block.ensures.good;
       money = checked_moneyed b.transactions tt say.1;
       room = omega (arith, pass.1, c.free.ensures, c.if-needed-free.false, c.in_ok-needed.ensures.few);
@@ -58,16 +58,16 @@ returns-in_err-sums g c =
     let v = g.V.CoinsView in
     let o = g.C.SpendCondition in
     let a = c.args.self.now in
+    let q = c.args.chain in
     let b = block_of c.in_ok-block.block in
     let p = err_from_is_err_and c.from_residual-in_err-sums.result c.from_residual-in_err-sums.ensures.1 in
-    let pass = then_passed (checks a.tip.id a.tip.height a.terms.last b) (needs b) _ (sym c.in_ok-needed.was ∙ c.check_block.ensures.is) in
-    let free : needs b ≤ 512 - length (entries a.chain) = omega (arith, pass.1, c.free.ensures, c.if-needed-free.false) in
+    let pass = then_passed (checks q.tip.id q.tip.height q.terms.last b) (needs b) _ (sym c.in_ok-needed.was ∙ c.check_block.ensures.is) in
+    let free : needs b ≤ 512 - length (entries a.state.undo) = omega (arith, pass.1, c.free.ensures, c.if-needed-free.false) in
     let e = c.in_err-sums.ensures in
     record {
-      ok = e.well;
-      same = λ h. record { started = refl; room = e.fixed; condition = refl; terms = refl; coins = e.value.1; tip = refl; kept = refl; chain = e.value.2 };
+      same = λ h. record { room = e.fixed; condition = refl; coins = e.value.1; active = refl; undo = e.value.2 };
       law = λ k s.
-          let r = refused_law v o k a s _ c.args.bytes.now _ (record { started = refl; room = e.fixed; condition = refl; terms = refl; coins = e.value.1; tip = refl; kept = refl; chain = e.value.2 }) (effect_refused v o k a s c.args.bytes.now b c.in_ok-block.ensures.reads pass.0 free _ e.value.0) in
+          let r = refused_law v o k a q c.requires s _ c.args.bytes.now _ (record { room = e.fixed; condition = refl; coins = e.value.1; active = refl; undo = e.value.2 }) (effect_refused v o k a q c.requires s c.args.bytes.now b c.in_ok-block.ensures.reads pass.0 free _ e.value.0) in
           (r.0, p.1 ∙ ap Err p.2 ∙ r.1);
     }
 
@@ -76,15 +76,15 @@ returns g c =
     let v = g.V.CoinsView in
     let o = g.C.SpendCondition in
     let a = c.args.self.now in
+    let q = c.args.chain in
     let b = block_of c.in_ok-block.block in
-    let pass = then_passed (checks a.tip.id a.tip.height a.terms.last b) (needs b) _ (sym c.in_ok-needed.was ∙ c.check_block.ensures.is) in
-    let say = checks_say a.tip.id a.tip.height a.terms.last b pass.0 in
-    let free : needs b ≤ 512 - length (entries a.chain) = omega (arith, pass.1, c.free.ensures, c.if-needed-free.false) in
+    let pass = then_passed (checks q.tip.id q.tip.height q.terms.last b) (needs b) _ (sym c.in_ok-needed.was ∙ c.check_block.ensures.is) in
+    let say = checks_say q.tip.id q.tip.height q.terms.last b pass.0 in
+    let free : needs b ≤ 512 - length (entries a.state.undo) = omega (arith, pass.1, c.free.ensures, c.if-needed-free.false) in
     let e = c.in_ok-sums.ensures in
     record {
-      ok = e.well;
       same = λ h. clash true refl h;
       law = λ k s.
-          let f = effect_accepted v o k a s c.args.bytes.now b c.in_ok-block.ensures.reads pass.0 free _ _ e.value in
-          accepted_law v o k a s _ c.args.bytes.now b _ _ f.0 f.1 say.0 refl e.fixed refl refl refl c.id-id.ensures refl refl e.kept.0 e.kept.1;
+          let f = effect_accepted v o k a q c.requires s c.args.bytes.now b c.in_ok-block.ensures.reads pass.0 free _ _ e.value in
+          accepted_law v o k a q c.requires s _ _ c.args.bytes.now b _ _ f.0 f.1 say.0 e.fixed refl refl refl refl c.id-id.ensures refl refl e.kept.0 e.kept.1;
     }

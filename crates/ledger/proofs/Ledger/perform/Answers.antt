@@ -7,7 +7,6 @@ returns g c =
     let v = g.V.CoinsView in
     let o = g.C.SpendCondition in
     record {
-      ok = e.ok;
       law = follows_book v o c.args.bytes.now c.args.call c.make.result c.args.self.now c.make.new.self e.performed.law;
       bottom = e.bottom;
       performed = e.performed;

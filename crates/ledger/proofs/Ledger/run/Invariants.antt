@@ -1,4 +1,4 @@
-use Rattle.std.proofs.Common.{◌-◌, ◌≤◌, length, take}
+use Rattle.std.proofs.Common.{take}
 use Rattle.ledger.specs.Book.{Book}
 use Rattle.ledger.specs.PageLaws.{PageLaws}
 use Rattle.ledger.specs.Pages.{Page, At}
@@ -6,11 +6,10 @@ use Rattle.ledger.specs.Standing.{Stands}
 use Rattle.ledger.proofs.Running.{Runs}
 use Rattle.ledger.proofs.Ledger.run.Given as goal
 
-abbrev pub invariant-loop-done : goal.invariant-loop-done
-invariant-loop-done g l =
+abbrev pub invariant-loop-i : goal.invariant-loop-i
+invariant-loop-i g l =
     let v = g.V.CoinsView in
-    let c = g.C.SpendCondition in
-    v.ok l.self.view × (l.done ≤ length l.calls) × (l.done ≤ length l.answers) × ((k : Book) → Stands v c k l.initial.self → Runs v c k l.bytes (take l.done l.calls) (take l.done l.answers) l.self) × ((p : Page) → At v c p l.initial.self → PageLaws v c p l.bytes (take l.done l.calls) (take l.done l.answers) l.self)
-
-abbrev pub decreases-loop-done : goal.decreases-loop-done
-decreases-loop-done g l = length l.calls - l.done
+    let c = g.C.SpendCondition in record {
+      book : (k : Book) → Stands v c k l.initial.self → Runs v c k l.bytes (take l.i l.calls) (take l.i l.answers) l.self;
+      page : (p : Page) → At v c p l.initial.self → PageLaws v c p l.bytes (take l.i l.calls) (take l.i l.answers) l.self;
+    }

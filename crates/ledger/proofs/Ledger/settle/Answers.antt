@@ -1,10 +1,6 @@
 use Rattle.std.proofs.Common.{refl, arith}
-use Rattle.ledger.proofs.Books.{clash, settle_law}
+use Rattle.ledger.proofs.Books.{settle_law}
 use Rattle.ledger.proofs.Ledger.settle.Goals as goal
 
-pub returns : goal.returns
-returns g c = record {
-  ok = c.requires;
-  early = λ h. clash _ c.if-not-self.false h;
-  law = λ k s. settle_law g.V.CoinsView g.C.SpendCondition k c.args.self.now _ c.args.n s (omega arith) refl refl refl refl refl refl c.keep.ensures;
-}
+pub returns-clause-law : goal.returns-clause-law
+returns-clause-law g c = λ k s. settle_law g.V.CoinsView g.C.SpendCondition k c.args.self.now _ c.in_ok-chain.chain _ c.args.n c.in_ok-chain.ensures.ok_part s (omega arith) refl refl refl refl refl refl c.keep.ensures
