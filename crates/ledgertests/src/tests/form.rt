@@ -58,6 +58,34 @@ fn short_buffers(rt: HostRuntime) -> Result<(), Fail> {
     check_said(short_buffer(), 9, Layer::Form, 0)
 }
 
+// The numbers of the reasons that the lists of calls and of peeks name.
+const NUMBERS: [(Reason, u8); 15] = [
+    (Reason::Cut, 1),
+    (Reason::FileCut, 6),
+    (Reason::Ended, 8),
+    (Reason::Parent, 10),
+    (Reason::LogFull, 12),
+    (Reason::Claim, 14),
+    (Reason::Missing, 30),
+    (Reason::Shut, 32),
+    (Reason::Exists, 33),
+    (Reason::Full, 34),
+    (Reason::Nothing, 40),
+    (Reason::Parameter, 41),
+    (Reason::NotEmpty, 42),
+    (Reason::Started, 43),
+    (Reason::NotStarted, 44),
+];
+
+#[test]
+fn numbers(rt: HostRuntime) {
+    assert!(rt;
+        NUMBERS
+            .iter()
+            .all(|(reason, number)| reason.number() == *number)
+    );
+}
+
 fn check_said(refusal: Refusal, number: u8, layer: Layer, first: u64) -> Result<(), Fail> {
     check(refusal.reason.number() == number, "number")?;
     check(refusal.reason.layer() == layer, "layer")?;
