@@ -14,7 +14,7 @@ pub fn array_at<const N: usize>(b: &[u8], at: usize) -> &[u8; N]
     requires { at + N ≤ length b.now }
     ensures { result.now ≡ take N (drop at b.now) }
 {
-    b[at..].first_chunk::<N>().unwrap()
+    b[at..at + N].first_chunk::<N>().unwrap()
 }
 
 // The input at `at`, and where it ends.
