@@ -1,4 +1,5 @@
 // The check of a block's form: each function starts at a place and answers the place after, or the first fault.
+// The place is a number that is handed on: a cursor that moves would have to say of each step what it leaves behind, where one equation says it here.
 ghost use Rattle.std.specs.Prelude.{◌≡◌, ◌<◌};
 ghost use Rattle.blockbytes.specs.Form.{field as field_form, count as count_form, times as times_form, counted as counted_form, input as input_form, output as output_form, transaction as transaction_form, block as block_form, Step, Computes};
 
@@ -33,20 +34,7 @@ fn count(b: &[u8], at: usize, limit: u8) -> Result<(usize, usize), FormFault>
     }
 }
 
-// Past an input: one test where all of it is there, else its fields one by one.
 fn input(b: &[u8], at: usize) -> Result<usize, FormFault>
-    ensures { result ≡ input_form b.now at }
-{
-    if at < b.len() && b.len() - at >= 37 {
-        let size = b[at + 36] as usize;
-        if size <= 100 && b.len() - at - 37 >= size {
-            return Ok(at + 37 + size);
-        }
-    }
-    input_fields(b, at)
-}
-
-fn input_fields(b: &[u8], at: usize) -> Result<usize, FormFault>
     ensures { result ≡ input_form b.now at }
 {
     let at = field(b, at, 32)?;
@@ -92,13 +80,14 @@ fn output(b: &[u8], at: usize) -> Result<usize, FormFault>
     field(b, at, 8)
 }
 
-// Past a count of outputs, which have one size: one test where all are there, else one by one.
+// Past a count of outputs, which have one size: one test where all are there, else one by one. With one by one alone, a full block takes a fifth more instructions.
 fn outputs(b: &[u8], at: usize) -> Result<usize, FormFault>
     ensures { result ≡ counted_form (output_form b.now) b.now at }
 {
     let (n, at) = count(b, at, 64)?;
-    if b.len() - at >= 17 * n {
-        return Ok(at + 17 * n);
+    let end = at + 17 * n;
+    if end <= b.len() {
+        return Ok(end);
     }
     times(n, at, |at| output(b, at))
 }

@@ -86,6 +86,7 @@ pub fn outputs_worth(outputs: Items<'_>) -> u64
     requires { worthOf (outputs_in (items_of outputs)) ≤ 2100000000000000 }
     ensures { result ≡ worthOf (outputs_in (items_of outputs.entry)) }
 {
+    // `map_while` and `sum` were tried: a reader says what each call hands out, not its whole run, so the bound got no proof.
     let mut sum = 0;
     for output in outputs {
         let Item::Output { value, .. } = output else {
@@ -123,15 +124,14 @@ fn make<V: CoinsView>(
     ensures long { OnOk result (length (entries state.new.undo) ≡ length (entries state.old.undo) + 1) }
 {
     let item = at.index as usize;
-    let Some(coin) = coin else {
-        return Err(TransactionFault::Money { output: item });
-    };
-    if let Err(fault) = state.view.put(at, coin) {
-        return Err(TransactionFault::Item {
+    let coin = coin.ok_or(TransactionFault::Money { output: item })?;
+    state
+        .view
+        .put(at, coin)
+        .map_err(|fault| TransactionFault::Item {
             item,
             fault: fault.into(),
-        });
-    }
+        })?;
     // The room was tested before the first coin was touched.
     let _ = state.undo.push(Record::Made(at, coin));
     Ok(())

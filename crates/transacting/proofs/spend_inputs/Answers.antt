@@ -1,4 +1,4 @@
-use Rattle.std.proofs.Common.{◌≡◌, ◌+◌, ◌∷◌, length, Ok, inl, sym, ◌∙◌, ap, arith, rules}
+use Rattle.std.proofs.Common.{◌≡◌, ◌+◌, ◌∷◌, length, inl, sym, ◌∙◌, ap, arith, rules}
 use Rattle.coins.specs.declared.outpoint.Outpoint.{Outpoint}
 use Rattle.undo.specs.Entries.{entries}
 use Rattle.blockform.specs.Value.{spends}
