@@ -1,5 +1,5 @@
 -- The lines of a run, one by one. Assumes nothing.
-use Rattle.std.proofs.Common.{◌≡◌, ℕ, ◌+◌, ◌<◌, ◌≤◌, false, cond, List, [], ◌∷◌, ◌++◌, length, Ok, Result, Option, sym, refl, ap, ◌∙◌, subst, append_assoc, append-nil, arith, le-ltb, lt-ltb}
+use Rattle.std.proofs.Common.{◌≡◌, ℕ, ◌+◌, ◌-◌, ◌<◌, ◌≤◌, false, cond, List, [], ◌∷◌, ◌++◌, length, Ok, Result, Option, sym, refl, ap, ◌∙◌, subst, append_assoc, append-nil, arith, le-ltb, lt-ltb}
 use Rattle.blockform.specs.File.{record_at}
 use Rattle.coinsview.specs.declared.view.CoinsView.{Ghosts as ViewGhosts}
 use Rattle.views.specs.declared.condition.SpendCondition.{Ghosts as ConditionGhosts}
@@ -35,12 +35,14 @@ module _ {V C : Type 0} (v : ViewGhosts V) (c : ConditionGhosts C) (file : List 
   pub runs_none : (a : Ledger V C v) → RunsOn v c file [] a a
   runs_none a q cs said h = ([], subst (λ x. PageLaws v c q file x (said ++ []) a) (sym (append-nil cs)) (subst (λ x. PageLaws v c q file cs x a) (sym (append-nil said)) h))
 
-  -- one call x, whose answer r is printed by `prints`
-  pub call_turn : {R : Type 0} (x : Call) (r : R) (said : R → Answer) (prints : R → Line) (says : Page → R) (l : Line) (a z : Ledger V C v) → ((q : Page) → At v c q a → At v c (page_after file x q) z × (r ≡ says q)) → ((q : Page) → answer_on file x q ≡ said (says q)) → is_flush x ≡ false → l ≡ prints r → PageTurn v c file (x ∷ []) (λ q. prints (says q)) l a z
-  call_turn x r said prints says l a z law is other printed = record {
-    line = λ q s. printed ∙ ap prints (law q s).1;
-    runs = λ q cs done h. (said r ∷ [], laws_more v c q file cs done x (said r) a z (λ p s. let t = law p s in (t.0, ap said t.1 ∙ sym (is p))) (λ e. absurd (let f = ap is_flush e in let g : ◌≡◌ {A = ℕ} 0 1 = cc in omega arith)) h);
-  }
+  -- one call
+  runs_one : (a z : Ledger V C v) (x : Call) (r : Answer) → ((q : Page) (cs : List Call) (said : List Answer) → PageLaws v c q file cs said a → PageLaws v c q file (cs ++ (x ∷ [])) (said ++ (r ∷ [])) z) → RunsOn v c file (x ∷ []) a z
+  runs_one a z x r f q cs said h = (r ∷ [], f q cs said h)
+
+  -- one call, whose answer r is printed by `prints`
+  pub call_turn : {R : Type 0} (x : Call) (r : R) (said : Answer) (prints : R → Line) (says : Page → R) (l : Line) (a z : Ledger V C v) → ((q : Page) → At v c q a → r ≡ says q) → l ≡ prints r
+      → ((q : Page) (cs : List Call) (done : List Answer) → PageLaws v c q file cs done a → PageLaws v c q file (cs ++ (x ∷ [])) (done ++ (said ∷ [])) z) → PageTurn v c file (x ∷ []) (λ q. prints (says q)) l a z
+  call_turn x r said prints says l a z told printed more = record { line = λ q s. printed ∙ ap prints (told q s); runs = runs_one a z x said more }
 
   pub runs_then : (a b z : Ledger V C v) (cs ds : List Call) → RunsOn v c file cs a b → RunsOn v c file ds b z → RunsOn v c file (cs ++ ds) a z
   runs_then a b z cs ds f g q before said h =
@@ -49,18 +51,20 @@ module _ {V C : Type 0} (v : ViewGhosts V) (c : ConditionGhosts C) (file : List 
       (one.0 ++ two.0, subst (λ x. PageLaws v c q file x (said ++ (one.0 ++ two.0)) z) (append_assoc before cs ds) (subst (λ x. PageLaws v c q file ((before ++ cs) ++ ds) x z) (append_assoc said one.0 two.0) two.1))
 
   -- a '+' that finds a record
-  pub connect_turn : (b : List ℕ) (p : ℕ) (r : Result Connected LedgerFault) (x : Line) (a z : Ledger V C v) → record_at file p ≡ Ok b → ((q : Page) → At v c q a → At v c (book_by (λ k. connected k b) q) z × (r ≡ from_book (λ k. connect_answer k b) q)) → x ≡ connect_line r → PageTurn v c file (calls_for file p Connect) (line_for file p Connect) x a z
-  connect_turn b p r x a z found law printed =
-      let same = record_part file p b found in
-      let bytes = part (p + 4) (p + 4 + length b) file in
-      let here = subst (λ s. (q : Page) → At v c q a → At v c (book_by (λ k. connected k s) q) z × (r ≡ from_book (λ k. connect_answer k s) q)) (sym same) law in
-      let turn = call_turn (call.Connect (p + 4) (p + 4 + length b)) r answer.Connect connect_line (λ q. from_book (λ k. connect_answer k bytes) q) x a z here (λ q. refl) refl printed in
-      let told = subst (λ s. PageTurn v c file (call.Connect (p + 4) (p + 4 + length b) ∷ []) (λ q. connect_line (from_book (λ k. connect_answer k s) q)) x a z) same turn in
-      subst (λ e. PageTurn v c file (connect_call p e) (λ q. record_line q e) x a z) (sym found) told
+  pub connect_turn : (bytes b : List ℕ) (p from to : ℕ) (x : Line) (a z : Ledger V C v) → bytes ≡ file → record_at file p ≡ Ok b → to ≡ p + 4 + length b → from ≡ to - length b
+      → PageTurn v c bytes (call.Connect from to ∷ []) (λ q. connect_line (from_book (λ k. connect_answer k (part from to bytes)) q)) x a z
+      → PageTurn v c file (calls_for file p Connect) (line_for file p Connect) x a z
+  connect_turn bytes b p from to x a z same found end begin t =
+      let start : from ≡ p + 4 = omega (arith, end, begin) in
+      let one = subst (λ s. PageTurn v c s (call.Connect from to ∷ []) (λ q. connect_line (from_book (λ k. connect_answer k (part from to s)) q)) x a z) same t in
+      let two = subst (λ i. PageTurn v c file (call.Connect i to ∷ []) (λ q. connect_line (from_book (λ k. connect_answer k (part i to file)) q)) x a z) start one in
+      let three = subst (λ i. PageTurn v c file (call.Connect (p + 4) i ∷ []) (λ q. connect_line (from_book (λ k. connect_answer k (part (p + 4) i file)) q)) x a z) end two in
+      let four = subst (λ s. PageTurn v c file (call.Connect (p + 4) (p + 4 + length b) ∷ []) (λ q. connect_line (from_book (λ k. connect_answer k s) q)) x a z) (record_part file p b found) three in
+      subst (λ r. PageTurn v c file (connect_call p r) (λ q. record_line q r) x a z) (sym found) four
 
   -- a command, by the calls and the line that are its own
-  pub command_turn : (p : ℕ) (k l : Command) (x : Line) (a z : Ledger V C v) → k ≡ l → PageTurn v c file (calls_for file p l) (line_for file p l) x a z → PageTurn v c file (calls_for file p k) (line_for file p k) x a z
-  command_turn p k l x a z is t = subst (λ y. PageTurn v c file (calls_for file p y) (line_for file p y) x a z) (sym is) t
+  pub command_turn : (bytes : List ℕ) (p : ℕ) (k l : Command) (x : Line) (a z : Ledger V C v) → bytes ≡ file → k ≡ l → PageTurn v c bytes (calls_for bytes p l) (line_for bytes p l) x a z → PageTurn v c file (calls_for file p k) (line_for file p k) x a z
+  command_turn bytes p k l x a z same is t = subst (λ y. PageTurn v c file (calls_for file p y) (line_for file p y) x a z) (sym is) (subst (λ s. PageTurn v c s (calls_for s p l) (line_for s p l) x a z) same t)
 
   -- ---- what is done of a run and what is left of it make up the whole
 

@@ -10,6 +10,7 @@ use blockform::file::FileReader;
 use coins::coin::Lock;
 use coinsview::view::CoinsView;
 use ledger::fault::LedgerFault;
+use ledger::runs::{Answer, Call};
 use ledger::terms::Parameters;
 use ledger::{Ledger, Outcome};
 use printout::Line;
@@ -36,6 +37,7 @@ fn perform<V: CoinsView, C: SpendCondition>(
     ensures turn { Moved file.old.file.now file.old.place file.new.place ledger.old ledger.new result command }
     ensures page { PageTurn V.CoinsView C.SpendCondition file.old.file.now (calls_for file.old.file.now file.old.place command) (line_for file.old.file.now file.old.place command) result ledger.old ledger.new }
 {
+    let blocks = file.bytes();
     match command {
         Command::Start {
             halving,
@@ -47,39 +49,65 @@ fn perform<V: CoinsView, C: SpendCondition>(
                 maturity,
                 last,
             };
-            ledger
-                .start(parameters, &START_ID)
-                .map_or_else(refused, |()| Line::Start)
+            let call = Call::Start {
+                parameters,
+                id: START_ID,
+            };
+            let Answer::Start(started) = ledger.perform(blocks, call) else {
+                unreachable()
+            };
+            started.map_or_else(refused, |()| Line::Start)
         }
         Command::Connect => match file.next() {
-            Ok(block) => ledger.connect(block).map_or_else(
-                refused,
-                |done| Line::Connect {
-                    height: done.height,
-                    made: done.made,
-                    spent: done.spent,
-                    fee: done.fees,
-                    burned: done.burned,
-                },
-            ),
+            Ok(block) => {
+                let to = file.place();
+                let call = Call::Connect {
+                    from: to - block.len(),
+                    to,
+                };
+                let Answer::Connect(connected) = ledger.perform(blocks, call) else {
+                    unreachable()
+                };
+                connected.map_or_else(
+                    refused,
+                    |done| Line::Connect {
+                        height: done.height,
+                        made: done.made,
+                        spent: done.spent,
+                        fee: done.fees,
+                        burned: done.burned,
+                    },
+                )
+            }
             Err(fault) => Line::Refused(fault.into()),
         },
-        Command::Disconnect => ledger.disconnect().map_or_else(
-            refused,
-            |done| Line::Disconnect {
-                height: done.height,
-                clean: done.outcome == Outcome::Clean,
-            },
-        ),
-        Command::Balance { kind, argument } => ledger.balance(&Lock { kind, argument }).map_or_else(
-            refused,
-            |held| Line::Balance {
-                kind,
-                argument,
-                coins: held.coins,
-                value: held.value,
-            },
-        ),
+        Command::Disconnect => {
+            let Answer::Disconnect(disconnected) = ledger.perform(blocks, Call::Disconnect) else {
+                unreachable()
+            };
+            disconnected.map_or_else(
+                refused,
+                |done| Line::Disconnect {
+                    height: done.height,
+                    clean: done.outcome == Outcome::Clean,
+                },
+            )
+        }
+        Command::Balance { kind, argument } => {
+            let call = Call::Balance(Lock { kind, argument });
+            let Answer::Balance(balance) = ledger.perform(blocks, call) else {
+                unreachable()
+            };
+            balance.map_or_else(
+                refused,
+                |held| Line::Balance {
+                    kind,
+                    argument,
+                    coins: held.coins,
+                    value: held.value,
+                },
+            )
+        }
     }
 }
 
