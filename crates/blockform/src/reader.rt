@@ -54,7 +54,7 @@ pub struct Transaction<'a> {
     pub outputs: Items<'a>,
 }
 
-// The transactions of a block that are still to come.
+// The transactions of a block that are still to come. One reader for them and for items would rest on a trait of what is read, with its laws: longer than the two.
 #[derive(Clone, Copy)]
 pub struct Transactions<'a> {
     block: &'a [u8],

@@ -139,6 +139,7 @@ fn check_transactions(mut others: Transactions<'_>) -> Result<usize, BlockFault>
     Ok(made + needed)
 }
 
+// A function of its own: all four ways out of `check_block` rest on its one equation.
 fn is_same(a: &[u8; 32], b: &[u8; 32]) -> bool
     ensures { result ≡ same_id a.now b.now }
 {
