@@ -28,10 +28,7 @@ fn call_agrees<V: CoinsView, C: SpendCondition>(
     number: u64,
     call: Call,
     answer: Answer,
-) -> Result<(), Fail>
-    requires { V.CoinsView.ok ledger.old.view }
-    ensures { V.CoinsView.ok ledger.new.view }
-{
+) -> Result<(), Fail> {
     let before = state_of(heap, ledger)?;
     let found = perform(ledger, blocks, call);
     check(
@@ -53,10 +50,7 @@ fn agrees<V: CoinsView, C: SpendCondition>(
     ledger: &mut Ledger<V, C>,
     blocks: &[Vec<u8>],
     list: &[(Call, Answer)],
-) -> Result<(), Fail>
-    requires { V.CoinsView.ok ledger.old.view }
-    ensures { V.CoinsView.ok ledger.new.view }
-{
+) -> Result<(), Fail> {
     let mut number = 0u64;
     for line in list {
         number = number.saturating_add(1);
