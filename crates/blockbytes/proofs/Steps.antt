@@ -8,8 +8,8 @@ use Rattle.compact.proofs.Parts.{encode_1}
 use Rattle.compact.proofs.Laws.{written_is_read, small_is_a_byte, nothing_is_cut}
 use Rattle.blockbytes.specs.declared.fault.FormFault.{FormFault}
 use Rattle.blockbytes.specs.declared.fault.FormFault.TheVariants.{Cut, OverCount, Tail}
-use Rattle.blockbytes.specs.Form.{then, times, field, at_most, count, counted, input, output, item, transaction, ended, block}
-use Rattle.blockbytes.specs.Places.{counted_end, input_end, output_end, item_end, inputs_end, transaction_end, list_at, end_of}
+use Rattle.blockbytes.specs.Form.{then, times, field, at_most, count, counted, input, output, transaction, ended, block}
+use Rattle.blockbytes.specs.Places.{counted_end, input_end, output_end, inputs_end, transaction_end, list_at, end_of}
 
 -- with steps to go, the next one comes first
 pub next : (step : ℕ → Result ℕ FormFault) (n i at : ℕ) → i < n → times (n - i) step at ≡ then (step at) (λ j. times (n - (i + 1)) step j)
@@ -154,10 +154,6 @@ input_ends b at e h = (input_ok b at e h).end
 
 pub output_ends : (b : List ℕ) → Ends (output b) output_end
 output_ends b at e h = (output_ok b at e h).0
-
-pub item_ends : (k : Bool) (b : List ℕ) → Ends (item k b) (item_end k b)
-item_ends true b = input_ends b
-item_ends false b = output_ends b
 
 pub times_end : (step : ℕ → Result ℕ FormFault) (end : ℕ → ℕ) → Ends step end → (n : ℕ) → Ends (times n step) (end_of n end)
 times_end step end d zero at e h = sym (ok_same at e h)

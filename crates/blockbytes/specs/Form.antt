@@ -1,5 +1,5 @@
 -- How a block's bytes are read, from a place in the block on: the next place, or the first fault and where its field begins.
-use Rattle.std.specs.Prelude.{ℕ, zero, suc, ◌+◌, ◌-◌, Bool, true, false, cond, List, length, drop, Ok, Err, Result, nat_lt}
+use Rattle.std.specs.Prelude.{◌≡◌, ℕ, zero, suc, ◌+◌, ◌-◌, ◌^◌, ◌<◌, cond, List, length, drop, Ok, Err, Result, nat_lt}
 use Rattle.compact.specs.Compact.{read_size}
 use Rattle.compact.specs.declared.SizeFault.{SizeFault}
 use Rattle.compact.specs.declared.SizeFault.TheVariants as size
@@ -25,6 +25,14 @@ at_most limit l at (Err size.LongForm) = Err (LongForm at)
 unfoldable pub count : ℕ → List ℕ → ℕ → Result (ℕ × ℕ) FormFault
 count limit b at = at_most limit (length b) at (read_size (drop at b))
 
+-- from a place to the next, or a fault
+abbrev pub Step : Type 0
+Step = ℕ → Result ℕ FormFault
+
+-- what a step of the code may answer is what `form` says
+abbrev pub Computes : (ℕ → Result ℕ FormFault → Type 0) → Step → Type 0
+Computes post form = (i : ℕ) (r : Result ℕ FormFault) → i < 2 ^ 64 → post i r → r ≡ form i
+
 -- n steps, one after another
 abbrev pub times : ℕ → (ℕ → Result ℕ FormFault) → ℕ → Result ℕ FormFault
 times zero step at = Ok at
@@ -41,11 +49,6 @@ input b at = then (field 32 b at) (λ i. then (field 4 b i) (λ j. then (count 1
 -- an output: value, kind and argument
 abbrev pub output : List ℕ → ℕ → Result ℕ FormFault
 output b at = then (field 8 b at) (λ i. then (field 1 b i) (λ j. field 8 b j))
-
--- an input or an output
-abbrev pub item : Bool → List ℕ → ℕ → Result ℕ FormFault
-item true b = input b
-item false b = output b
 
 -- a transaction: its identifier, its inputs, its outputs
 abbrev pub transaction : List ℕ → ℕ → Result ℕ FormFault

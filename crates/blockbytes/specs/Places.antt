@@ -1,10 +1,10 @@
 -- The values that stand at a place of bytes whose form is right.
-use Rattle.std.specs.Prelude.{ℕ, zero, suc, ◌+◌, Bool, true, false, cond, List, [], ◌∷◌, length, take, drop, Ok, Err, Result, nat_lt, slice_index}
+use Rattle.std.specs.Prelude.{ℕ, zero, suc, ◌+◌, cond, List, [], ◌∷◌, length, take, drop, Ok, Err, Result, nat_lt, slice_index}
 use Rattle.compact.specs.Compact.{four_at, eight_at}
 use Rattle.blockbytes.specs.declared.fault.FormFault.{FormFault}
 use Rattle.blockbytes.specs.declared.fault.FormFault.TheVariants.{OverSize}
 use Rattle.blockbytes.specs.Form.{then, block}
-use Rattle.blockbytes.specs.Value.{InputValue, OutputValue, TransactionValue, BlockValue, Piece, spends, makes}
+use Rattle.blockbytes.specs.Value.{InputValue, OutputValue, TransactionValue, BlockValue}
 
 -- the n values that stand from a place on, one after another, and where they end
 abbrev pub list_at : {X : Type 0} → ℕ → (ℕ → X) → (ℕ → ℕ) → ℕ → List X
@@ -29,14 +29,6 @@ output_at b at = record { value = eight_at b at; lock = record { kind = slice_in
 
 abbrev pub output_end : ℕ → ℕ
 output_end at = at + 17
-
-abbrev pub item_at : Bool → List ℕ → ℕ → Piece
-item_at true b = λ at. spends (input_at b at)
-item_at false b = λ at. makes (output_at b at)
-
-abbrev pub item_end : Bool → List ℕ → ℕ → ℕ
-item_end true b = input_end b
-item_end false b = output_end
 
 -- a count at a place, what that many values after it are, and where they end
 abbrev pub counted_at : {X : Type 0} → (ℕ → X) → (ℕ → ℕ) → List ℕ → ℕ → List X

@@ -14,27 +14,16 @@ pub enum FormFault {
     OverSize,
 }
 
-// A reason at an offset.
-pub fn at_offset(reason: Reason, at: usize) -> Refusal
-    ensures { result ≡ record { reason = reason; first = at; second = 0 } }
-{
-    Refusal {
-        reason,
-        first: at as u64,
-        second: 0,
-    }
-}
+impl From<FormFault> for Refusal {
+    ghost from_gives = { λ fault r. r ≡ form_refusal fault };
 
-impl FormFault {
-    pub fn refusal(self) -> Refusal
-        ensures { result ≡ form_refusal self }
-    {
-        match self {
-            FormFault::Cut { at } => at_offset(Reason::Cut, at),
-            FormFault::LongForm { at } => at_offset(Reason::LongForm, at),
-            FormFault::OverCount { at } => at_offset(Reason::OverCount, at),
-            FormFault::Tail { at } => at_offset(Reason::Tail, at),
-            FormFault::OverSize => at_offset(Reason::OverSize, 0),
+    fn from(fault: FormFault) -> Refusal {
+        match fault {
+            FormFault::Cut { at } => Reason::Cut.at(at, 0),
+            FormFault::LongForm { at } => Reason::LongForm.at(at, 0),
+            FormFault::OverCount { at } => Reason::OverCount.at(at, 0),
+            FormFault::Tail { at } => Reason::Tail.at(at, 0),
+            FormFault::OverSize => Reason::OverSize.into(),
         }
     }
 }

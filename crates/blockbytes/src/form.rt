@@ -1,6 +1,7 @@
 // The check of a block's form: each function starts at a place and answers the place after, or the first fault.
+// The place is a number that is handed on: a cursor that moves would have to say of each step what it leaves behind, where one equation says it here.
 ghost use Rattle.std.specs.Prelude.{◌≡◌, ◌<◌};
-ghost use Rattle.blockbytes.specs.Form.{field as field_form, count as count_form, counted, input as input_form, output as output_form, transaction as transaction_form, block as block_form};
+ghost use Rattle.blockbytes.specs.Form.{field as field_form, count as count_form, times as times_form, counted as counted_form, input as input_form, output as output_form, transaction as transaction_form, block as block_form, Step, Computes};
 
 use crate::fault::FormFault;
 use compact::{SizeFault, read_size};
@@ -9,10 +10,10 @@ use compact::{SizeFault, read_size};
 fn field(b: &[u8], at: usize, n: usize) -> Result<usize, FormFault>
     ensures { result ≡ field_form n b.now at }
 {
-    if b.len() < at || b.len() - at < n {
-        return Err(FormFault::Cut { at });
+    match at.checked_add(n) {
+        Some(end) if end <= b.len() => Ok(end),
+        _ => Err(FormFault::Cut { at }),
     }
-    Ok(at + n)
 }
 
 // A count of at most `limit`, and the place after it. Such a count has one byte; the compact size tells the faults apart.
@@ -20,11 +21,11 @@ fn count(b: &[u8], at: usize, limit: u8) -> Result<(usize, usize), FormFault>
     requires { limit < 253 }
     ensures { result ≡ count_form limit b.now at }
 {
-    if b.len() <= at {
+    let Some(&n) = b.get(at) else {
         return Err(FormFault::Cut { at });
-    }
-    if b[at] <= limit {
-        return Ok((b[at] as usize, at + 1));
+    };
+    if n <= limit {
+        return Ok((n as usize, at + 1));
     }
     match read_size(b.split_at(at).1) {
         Err(SizeFault::Cut) => Err(FormFault::Cut { at }),
@@ -33,20 +34,7 @@ fn count(b: &[u8], at: usize, limit: u8) -> Result<(usize, usize), FormFault>
     }
 }
 
-// Past an input: one test where all of it is there, else its fields one by one.
 fn input(b: &[u8], at: usize) -> Result<usize, FormFault>
-    ensures { result ≡ input_form b.now at }
-{
-    if at < b.len() && b.len() - at >= 37 {
-        let size = b[at + 36] as usize;
-        if size <= 100 && b.len() - at - 37 >= size {
-            return Ok(at + 37 + size);
-        }
-    }
-    input_fields(b, at)
-}
-
-fn input_fields(b: &[u8], at: usize) -> Result<usize, FormFault>
     ensures { result ≡ input_form b.now at }
 {
     let at = field(b, at, 32)?;
@@ -55,14 +43,33 @@ fn input_fields(b: &[u8], at: usize) -> Result<usize, FormFault>
     field(b, at, n)
 }
 
-fn inputs(b: &[u8], at: usize) -> Result<usize, FormFault>
-    ensures { result ≡ counted (input_form b.now) b.now at }
+// Past `n` steps, one after another.
+fn times<F: Fn(usize) -> Result<usize, FormFault>>(
+    n: usize,
+    at: usize,
+    step: F,
+) -> Result<usize, FormFault>
+    requires { F.IsAlwaysCallable step }
+    ensures { (form : Step) → Computes (F.post step) form → result ≡ times_form n form at }
 {
-    let (n, mut at) = count(b, at, 64)?;
+    let mut at = at;
     for _i in 0..n {
-        at = input(b, at)?;
+        at = step(at)?;
     }
     Ok(at)
+}
+
+// Past a count of at most 64, and that many steps.
+fn counted<F: Fn(usize) -> Result<usize, FormFault>>(
+    b: &[u8],
+    at: usize,
+    step: F,
+) -> Result<usize, FormFault>
+    requires { F.IsAlwaysCallable step }
+    ensures { (form : Step) → Computes (F.post step) form → result ≡ counted_form form b.now at }
+{
+    let (n, at) = count(b, at, 64)?;
+    times(n, at, step)
 }
 
 fn output(b: &[u8], at: usize) -> Result<usize, FormFault>
@@ -73,36 +80,24 @@ fn output(b: &[u8], at: usize) -> Result<usize, FormFault>
     field(b, at, 8)
 }
 
-// Past a count of outputs, which have one size: one test where all are there, else one by one.
+// Past a count of outputs, which have one size: one test where all are there, else one by one. With one by one alone, a full block takes a fifth more instructions.
 fn outputs(b: &[u8], at: usize) -> Result<usize, FormFault>
-    ensures { result ≡ counted (output_form b.now) b.now at }
+    ensures { result ≡ counted_form (output_form b.now) b.now at }
 {
-    let (n, mut at) = count(b, at, 64)?;
-    if b.len() - at >= 17 * n {
-        return Ok(at + 17 * n);
+    let (n, at) = count(b, at, 64)?;
+    let end = at + 17 * n;
+    if end <= b.len() {
+        return Ok(end);
     }
-    for _i in 0..n {
-        at = output(b, at)?;
-    }
-    Ok(at)
+    times(n, at, |at| output(b, at))
 }
 
 fn transaction(b: &[u8], at: usize) -> Result<usize, FormFault>
     ensures { result ≡ transaction_form b.now at }
 {
     let at = field(b, at, 32)?;
-    let at = inputs(b, at)?;
+    let at = counted(b, at, |at| input(b, at))?;
     outputs(b, at)
-}
-
-fn transactions(b: &[u8], at: usize) -> Result<usize, FormFault>
-    ensures { result ≡ counted (transaction_form b.now) b.now at }
-{
-    let (n, mut at) = count(b, at, 64)?;
-    for _i in 0..n {
-        at = transaction(b, at)?;
-    }
-    Ok(at)
 }
 
 // Where the block ends that the bytes are, or the first fault.
@@ -111,7 +106,7 @@ pub fn block(b: &[u8]) -> Result<usize, FormFault>
 {
     let at = field(b, 0, 32)?;
     let at = field(b, at, 32)?;
-    let at = transactions(b, at)?;
+    let at = counted(b, at, |at| transaction(b, at))?;
     if at < b.len() {
         return Err(FormFault::Tail { at });
     }

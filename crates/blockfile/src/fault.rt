@@ -3,7 +3,7 @@ ghost use Rattle.std.specs.Prelude.{◌≡◌};
 ghost use Rattle.blockfile.specs.Faults.{file_refusal, peek_refusal};
 ghost use Rattle.blockfile.specs.declared.fault.PeekFault.TheVariants.{File as OfFile, Form as OfForm};
 
-use blockbytes::fault::{FormFault, at_offset};
+use blockbytes::fault::FormFault;
 use refusal::{Reason, Refusal};
 
 // Why a block file gives no record; a cut record has its offset in the file.
@@ -21,25 +21,25 @@ pub enum PeekFault {
     Form(FormFault),
 }
 
-impl FileFault {
-    pub fn refusal(self) -> Refusal
-        ensures { result ≡ file_refusal self }
-    {
-        match self {
-            FileFault::OverSize => at_offset(Reason::FileOverSize, 0),
-            FileFault::Cut { at } => at_offset(Reason::FileCut, at),
-            FileFault::Ended => at_offset(Reason::Ended, 0),
+impl From<FileFault> for Refusal {
+    ghost from_gives = { λ fault r. r ≡ file_refusal fault };
+
+    fn from(fault: FileFault) -> Refusal {
+        match fault {
+            FileFault::OverSize => Reason::FileOverSize.into(),
+            FileFault::Cut { at } => Reason::FileCut.at(at, 0),
+            FileFault::Ended => Reason::Ended.into(),
         }
     }
 }
 
-impl PeekFault {
-    pub fn refusal(self) -> Refusal
-        ensures { result ≡ peek_refusal self }
-    {
-        match self {
-            PeekFault::File(fault) => fault.refusal(),
-            PeekFault::Form(fault) => fault.refusal(),
+impl From<PeekFault> for Refusal {
+    ghost from_gives = { λ fault r. r ≡ peek_refusal fault };
+
+    fn from(fault: PeekFault) -> Refusal {
+        match fault {
+            PeekFault::File(fault) => fault.into(),
+            PeekFault::Form(fault) => fault.into(),
         }
     }
 }

@@ -6,13 +6,11 @@ use Rattle.blockbytes.specs.Form.{input, output}
 use Rattle.blockbytes.specs.Value.{encode_all, encode_input, encode_output, encode_transaction}
 use Rattle.blockbytes.specs.Places.{input_at, input_end, output_at, output_end, inputs_end, transaction_at, transaction_end}
 use Rattle.blockform.specs.declared.reader.Transactions.{Transactions}
-use Rattle.blockform.specs.Readers.{TransactionsGood}
 use Rattle.blockbytes.proofs.Steps.{Found, found, input_ends, output_ends, length_list}
 use Rattle.blockbytes.proofs.Encoding.{input_long, output_long, all_long}
 
-pub next_found : (r : Transactions) → TransactionsGood r → (r.left ≡ 0 → ⊥) → Found r.block.now r.left r.place
-unfolding TransactionsGood
-next_found r g h = found r.block.now r.left r.place (omega arith) g.1
+pub next_found : (r : Transactions) → (r.left ≡ 0 → ⊥) → Found r.block.now r.left r.place
+next_found r h = found r.block.now r.left r.place (omega arith) r.good
 
 -- a count of at most 64 has one byte
 one_byte : {X : Type 0} (xs : List X) → length xs ≤ 64 → length (encode (length xs)) ≡ 1

@@ -3,13 +3,13 @@ ghost use Rattle.std.specs.Prelude.{◌≡◌};
 ghost use Rattle.blockform.specs.Faults.{short_refusal};
 
 pub use blockbytes::fault::FormFault;
-use blockbytes::fault::at_offset;
 pub use blockfile::fault::{FileFault, PeekFault};
-use refusal::{Reason, Refusal};
+use compact::ShortBuffer;
+use refusal::Refusal;
 
-// A buffer too short for a compact size, as a refusal.
+// A buffer too short for a compact size, as a refusal: for users of this library, who need not name the crate of compact sizes.
 pub fn short_buffer() -> Refusal
     ensures { result ≡ short_refusal }
 {
-    at_offset(Reason::Short, 0)
+    ShortBuffer.into()
 }

@@ -8,4 +8,4 @@ pub mod reader;
 pub use blockbytes::block_encoding;
 
 // The greatest size of a block, and of a block file.
-pub const MAX_BLOCK: usize = 65_536;
+pub use blockbytes::MAX_BLOCK;

@@ -1,4 +1,9 @@
 // Readers over bytes that were accepted as a block. What is left of each is well formed, so reading has no fault.
+ghost use Rattle.std.specs.Prelude.{◌≡◌, ◌≤◌, true, is_ok};
+ghost use Rattle.std.proofs.Props.{props};
+ghost use Rattle.blockbytes.specs.Form.{times, transaction as transaction_form, block as block_form};
+ghost use Rattle.blockform.specs.Kinds.{item as item_form};
+
 use coins::coin::Lock;
 
 mod accepted;
@@ -22,13 +27,22 @@ pub enum Item<'a> {
     },
 }
 
+// What a list of items has.
+#[derive(Clone, Copy)]
+enum Kind {
+    Input,
+    Output,
+}
+
 // The inputs, or the outputs, of a transaction that are still to come.
 #[derive(Clone, Copy)]
 pub struct Items<'a> {
     block: &'a [u8],
     place: usize,
     left: usize,
-    inputs: bool,
+    kind: Kind,
+    pub ghost few: { left ≤ 64 },
+    pub ghost good: { is_ok (times left (item_form kind block.now) place) ≡ true } by { Prim.hlevel props },
 }
 
 // A transaction, with the offset in the block at which it begins.
@@ -46,10 +60,13 @@ pub struct Transactions<'a> {
     block: &'a [u8],
     place: usize,
     left: usize,
+    pub ghost few: { left ≤ 64 },
+    pub ghost good: { is_ok (times left (transaction_form block.now) place) ≡ true } by { Prim.hlevel props },
 }
 
 // The bytes of a block.
 #[derive(Clone, Copy)]
 pub struct Block<'a> {
     bytes: &'a [u8],
+    pub ghost good: { is_ok (block_form bytes.now) ≡ true } by { Prim.hlevel props },
 }

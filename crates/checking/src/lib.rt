@@ -3,7 +3,7 @@
 
 ghost use Rattle.std.specs.Prelude.{◌≡◌, ◌+◌, ◌≤◌, length, IfOk, Ok};
 ghost use Rattle.blockform.specs.Value.{TransactionValue};
-ghost use Rattle.blockform.specs.Readers.{piece_of, items_of, transactions_of, block_of, ItemsGood, TransactionsGood, BlockGood, Hands};
+ghost use Rattle.blockform.specs.Readers.{piece_of, items_of, transactions_of, block_of, Hands};
 ghost use Rattle.connecting.specs.Parts.{inputs_in, outputs_in, null_piece};
 ghost use Rattle.connecting.specs.Rules.{then, is_coinbase as coinbaseBy, money, no_null, some_data, coinbase_checks, spending_checks, others_checks, transactions_checks, transactions_needs, same_id, checks, coins_made, others_needs, needs as needsOf};
 
@@ -28,28 +28,22 @@ fn is_null(item: &Item<'_>) -> bool
 
 // Exactly one input, the null outpoint.
 fn is_coinbase(mut inputs: Items<'_>) -> bool
-    requires { ItemsGood inputs }
     ensures { length (inputs_in (items_of inputs.entry)) ≡ length (items_of inputs.entry) → result ≡ coinbaseBy (inputs_in (items_of inputs.entry)) }
 {
-    if inputs.len() != 1 {
-        return false;
-    }
-    match inputs.next() {
-        Some(item) => is_null(&item),
-        None => false,
-    }
+    inputs.len() == 1 && inputs.next().is_some_and(|item| is_null(&item))
 }
 
 // The outputs' values and their sum so far are at most the greatest value. Answers how many outputs make a coin.
-fn check_outputs(mut outputs: Items<'_>) -> Result<usize, TransactionFault>
-    requires { ItemsGood outputs }
+fn check_outputs(outputs: Items<'_>) -> Result<usize, TransactionFault>
     ensures is { result ≡ then (money 0 0 (outputs_in (items_of outputs.entry))) (λ _. Ok (coins_made (outputs_in (items_of outputs.entry)))) }
     ensures few { IfOk result (λ n. n ≤ 64) }
 {
     let mut sum = 0;
     let mut made = 0;
-    let mut output = 0;
-    while let Some(Item::Output { value, lock, .. }) = outputs.next() {
+    for (output, item) in outputs.enumerate() {
+        let Item::Output { value, lock, .. } = item else {
+            break;
+        };
         if value > MAX_VALUE - sum {
             return Err(TransactionFault::Money { output });
         }
@@ -57,29 +51,27 @@ fn check_outputs(mut outputs: Items<'_>) -> Result<usize, TransactionFault>
         if lock.kind != 0 {
             made += 1;
         }
-        output += 1;
     }
     Ok(made)
 }
 
 // No input names the null outpoint.
-fn check_inputs(mut inputs: Items<'_>) -> Result<(), TransactionFault>
-    requires { ItemsGood inputs }
+fn check_inputs(inputs: Items<'_>) -> Result<(), TransactionFault>
     ensures { result ≡ no_null 0 (inputs_in (items_of inputs.entry)) }
 {
-    let mut input = 0;
-    while let Some(Item::Input { id, index, .. }) = inputs.next() {
+    for (input, item) in inputs.enumerate() {
+        let Item::Input { id, index, .. } = item else {
+            break;
+        };
         if (Outpoint { id: *id, index }).is_null() {
             return Err(TransactionFault::Null { input });
         }
-        input += 1;
     }
     Ok(())
 }
 
 // The first input's witness has two bytes at least.
 fn check_data(mut inputs: Items<'_>) -> Result<(), TransactionFault>
-    requires { ItemsGood inputs }
     ensures { result ≡ some_data (inputs_in (items_of inputs.entry)) }
 {
     match inputs.next() {
@@ -90,7 +82,6 @@ fn check_data(mut inputs: Items<'_>) -> Result<(), TransactionFault>
 
 // The checks of a coinbase. Answers how many undo entries it needs.
 fn check_coinbase(tx: &Transaction<'_>) -> Result<usize, TransactionFault>
-    requires { ItemsGood tx.now.inputs × ItemsGood tx.now.outputs }
     ensures is { (v : TransactionValue) → Hands tx.now v → result ≡ then (coinbase_checks v) (λ _. Ok (coins_made v.outputs)) }
     ensures few { IfOk result (λ n. n ≤ 64) }
 {
@@ -103,7 +94,6 @@ fn check_coinbase(tx: &Transaction<'_>) -> Result<usize, TransactionFault>
 
 // The checks of any other transaction. Answers how many undo entries it needs.
 fn check_spending(tx: &Transaction<'_>) -> Result<usize, TransactionFault>
-    requires { ItemsGood tx.now.inputs × ItemsGood tx.now.outputs }
     ensures is { (v : TransactionValue) → Hands tx.now v → result ≡ then (spending_checks v) (λ _. Ok (length v.inputs + coins_made v.outputs)) }
     ensures few { IfOk result (λ n. n ≤ 128) }
 {
@@ -122,23 +112,19 @@ fn check_spending(tx: &Transaction<'_>) -> Result<usize, TransactionFault>
 }
 
 // The checks of the transactions after the coinbase. Answers how many undo entries they need.
-fn check_others(mut others: Transactions<'_>) -> Result<usize, BlockFault>
-    requires { TransactionsGood others }
+fn check_others(others: Transactions<'_>) -> Result<usize, BlockFault>
     ensures is { result ≡ then (others_checks 1 (transactions_of others.entry)) (λ _. Ok (others_needs (transactions_of others.entry))) }
     ensures few { IfOk result (λ n. n ≤ 8192) }
 {
     let mut needed = 0;
-    let mut t = 1;
-    while let Some(tx) = others.next() {
-        needed += at_transaction(check_spending(&tx), t)?;
-        t += 1;
+    for (before, tx) in others.enumerate() {
+        needed += at_transaction(check_spending(&tx), before + 1)?;
     }
     Ok(needed)
 }
 
 // The checks of a block's transactions. Answers how many undo entries they need.
 fn check_transactions(mut others: Transactions<'_>) -> Result<usize, BlockFault>
-    requires { TransactionsGood others }
     ensures is { result ≡ then (transactions_checks (transactions_of others.entry)) (λ _. Ok (transactions_needs (transactions_of others.entry))) }
     ensures few { IfOk result (λ n. n ≤ 8256) }
 {
@@ -166,7 +152,6 @@ pub fn check_block(
     height: u32,
     last: u32,
 ) -> Result<usize, BlockFault>
-    requires { BlockGood block.now }
     ensures is { result ≡ then (checks tip.now height last (block_of block.now)) (λ _. Ok (needsOf (block_of block.now))) }
     ensures few { IfOk result (λ n. n ≤ 8257) }
 {

@@ -19,32 +19,23 @@ pub enum SizeFault {
 #[derive(Clone, Copy, PartialEq, Eq, Debug)]
 pub struct ShortBuffer;
 
-impl SizeFault {
-    // The refusal of bytes that are read as a compact size; its place is the first of them.
-    pub fn refusal(self) -> Refusal
-        ensures { result ≡ size_refusal self }
-    {
-        let reason = match self {
-            SizeFault::Cut => Reason::Cut,
-            SizeFault::LongForm => Reason::LongForm,
-        };
-        Refusal {
-            reason,
-            first: 0,
-            second: 0,
+// The refusal of bytes that are read as a compact size; its place is the first of them.
+impl From<SizeFault> for Refusal {
+    ghost from_gives = { λ fault r. r ≡ size_refusal fault };
+
+    fn from(fault: SizeFault) -> Refusal {
+        match fault {
+            SizeFault::Cut => Reason::Cut.into(),
+            SizeFault::LongForm => Reason::LongForm.into(),
         }
     }
 }
 
-impl ShortBuffer {
-    pub fn refusal(self) -> Refusal
-        ensures { result ≡ short_refusal self }
-    {
-        Refusal {
-            reason: Reason::Short,
-            first: 0,
-            second: 0,
-        }
+impl From<ShortBuffer> for Refusal {
+    ghost from_gives = { λ buffer r. r ≡ short_refusal buffer };
+
+    fn from(_: ShortBuffer) -> Refusal {
+        Reason::Short.into()
     }
 }
 
@@ -82,15 +73,14 @@ pub fn read_size(s: &[u8]) -> Result<(u64, &[u8]), SizeFault>
 }
 
 // Writes `bytes` over the front of `out`, or nothing where they have no room.
-fn fill_front(out: &mut [u8], bytes: &[u8]) -> Result<usize, ShortBuffer>
-    ensures { MatchResult result (λ k. (k ≡ length bytes.now) × (out.new ≡ bytes.now ++ drop k out.old)) (λ _. (length out.old < length bytes.now) × (out.new ≡ out.old)) }
+fn fill_front<const N: usize>(out: &mut [u8], bytes: [u8; N]) -> Result<usize, ShortBuffer>
+    ensures { MatchResult result (λ k. (k ≡ N) × (out.new ≡ bytes.entry ++ drop k out.old)) (λ _. (length out.old < N) × (out.new ≡ out.old)) }
 {
-    let k = bytes.len();
-    if out.len() < k {
+    let Some(front) = out.first_chunk_mut::<N>() else {
         return Err(ShortBuffer);
-    }
-    out[0..k].copy_from_slice(bytes);
-    Ok(k)
+    };
+    *front = bytes;
+    Ok(N)
 }
 
 // Writes `n` over the front of `out`, and answers how many bytes it took.
@@ -99,13 +89,13 @@ pub fn write_size(out: &mut [u8], n: u64) -> Result<usize, ShortBuffer>
 {
     let [a, b, c, d, e, f, g, h] = n.to_le_bytes();
     if n < 0xFD {
-        fill_front(out, &[a])
+        fill_front(out, [a])
     } else if n < 0x1_0000 {
-        fill_front(out, &[0xFD, a, b])
+        fill_front(out, [0xFD, a, b])
     } else if n < 0x1_0000_0000 {
-        fill_front(out, &[0xFE, a, b, c, d])
+        fill_front(out, [0xFE, a, b, c, d])
     } else {
-        fill_front(out, &[0xFF, a, b, c, d, e, f, g, h])
+        fill_front(out, [0xFF, a, b, c, d, e, f, g, h])
     }
 }
 

@@ -1,5 +1,5 @@
 -- What a block takes from the coins and adds to them. Assumes nothing.
-use Rattle.std.proofs.Common.{◌≡◌, ℕ, ◌+◌, ◌-◌, ◌<◌, ◌≤◌, Bool, true, false, cond, ◌&&◌, ltb, leb, ◌⊎◌, List, [], ◌∷◌, Some, None, Ok, Err, Option, Result, sym, refl, ap, ◌∙◌, subst, inl, inr, arith, ltb-false}
+use Rattle.std.proofs.Common.{◌≡◌, ℕ, ◌+◌, ◌-◌, ◌<◌, ◌≤◌, Bool, true, false, cond, ◌&&◌, ltb, leb, ◌⊎◌, List, [], ◌∷◌, Some, None, Ok, Err, Option, Result, IsErrAnd, MatchResult, sym, refl, ap, ◌∙◌, subst, inl, inr, arith, ltb-false}
 use Rattle.std.proofs.lemmas.Bool.Decides.{leb_tells}
 use Rattle.coins.specs.declared.coin.Coin.{Coin}
 use Rattle.coins.specs.declared.coin.Lock.{Lock}
@@ -38,6 +38,11 @@ item_ok i (Err f) x h = no_err _ x h
 pub transaction_ok : {X : Type 0} (t : ℕ) (r : Result X TransactionFault) (x : X) → at_transaction t r ≡ Ok x → r ≡ Ok x
 transaction_ok t (Ok y) x h = let e : y ≡ x = cc in ap Ok e
 transaction_ok t (Err f) x h = no_err _ x h
+
+-- an answer whose fault was given its place
+pub placed_ok : {X E F : Type 0} (r : Result X E) (o : Result X F) (P : E → F → Type 0) (x : X) → MatchResult r (λ y. o ≡ Ok y) (λ e. IsErrAnd o (P e)) → o ≡ Ok x → r ≡ Ok x
+placed_ok (Ok y) o P x h e = let z : y ≡ x = cc in ap Ok z
+placed_ok (Err f) o P x h e = let z : IsErrAnd (Ok x) (P f) = rw e at h in absurd z
 
 -- a test that refuses where it is true, and was false
 pub test_ok : {X F : Type 0} (b : Bool) (e : F) (r : Result X F) (x : X) → cond b (Err e) r ≡ Ok x → (b ≡ false) × (r ≡ Ok x)
@@ -85,7 +90,7 @@ module _ (room h : ℕ) where
   coin_value y b (inl p) c e = let z : record { value = y.value; lock = y.lock; height = h; coinbase = b; money = p.1 } ≡ c = cc in ap (λ x. x.value) (sym z)
   coin_value y b (inr p) c e = let z : ◌≡◌ {A = ℕ} 0 1 = cc in absurd (omega arith)
 
-  make_value : (id : List ℕ) (i : ℕ) (w : Option Coin) (m n : Coins) → Sorted outpoints m → make room h id i w m ≡ Ok n → (c : Coin) × (w ≡ Some c) × (value_in n ≡ c.value + value_in m) × Sorted outpoints n
+  make_value : (id : List ℕ) (i : ℕ) (w : Option Coin) (m n : Coins) → Sorted outpoints m → make room id i w m ≡ Ok n → (c : Coin) × (w ≡ Some c) × (value_in n ≡ c.value + value_in m) × Sorted outpoints n
   make_value id i None m n o e = no_err _ n e
   make_value id i (Some c) m n o e =
       let k : Outpoint = record { id = id; index = i } in
@@ -97,10 +102,10 @@ module _ (room h : ℕ) where
   pub make_all_value : (id : List ℕ) (b : Bool) (i : ℕ) (ys : List OutputValue) (m n : Coins) → Sorted outpoints m → make_all room h id b i ys m ≡ Ok n → (value_in n + value_burned ys ≡ value_in m + worth ys) × Sorted outpoints n
   make_all_value id b i [] m n o e = let z : m ≡ n = ok_same {F = TransactionFault} _ _ e in (ap (λ x. value_in x + 0) (sym z), subst (Sorted outpoints) z o)
   make_all_value id b i (y ∷ ys) m n o e =
-      let a = then_ok (cond (burns y) (Ok m) (make room h id i (coin_of y h b) m)) _ n e in
+      let a = then_ok (cond (burns y) (Ok m) (make room id i (coin_of y h b) m)) _ n e in
       go (λ j u r. make_all_value id b (i + 1) ys j n u r) (burns y) refl a.0 a.1 a.2
     where
-      go : ((j : Coins) → Sorted outpoints j → make_all room h id b (i + 1) ys j ≡ Ok n → (value_in n + value_burned ys ≡ value_in j + worth ys) × Sorted outpoints n) → (t : Bool) → burns y ≡ t → (j : Coins) → cond t (Ok m) (make room h id i (coin_of y h b) m) ≡ Ok j → make_all room h id b (i + 1) ys j ≡ Ok n → (value_in n + value_burned (y ∷ ys) ≡ value_in m + worth (y ∷ ys)) × Sorted outpoints n
+      go : ((j : Coins) → Sorted outpoints j → make_all room h id b (i + 1) ys j ≡ Ok n → (value_in n + value_burned ys ≡ value_in j + worth ys) × Sorted outpoints n) → (t : Bool) → burns y ≡ t → (j : Coins) → cond t (Ok m) (make room id i (coin_of y h b) m) ≡ Ok j → make_all room h id b (i + 1) ys j ≡ Ok n → (value_in n + value_burned (y ∷ ys) ≡ value_in m + worth (y ∷ ys)) × Sorted outpoints n
       go rest true t j p r =
           let z : m ≡ j = ok_same {F = TransactionFault} _ _ p in
           let ih = rest j (subst (Sorted outpoints) z o) r in

@@ -3,6 +3,7 @@ use Rattle.std.specs.Prelude.{ℕ}
 use Rattle.refusal.specs.declared.Reason.{Reason}
 use Rattle.refusal.specs.declared.Reason.TheVariants as reason
 use Rattle.refusal.specs.declared.Refusal.{Refusal}
+use Rattle.refusal.specs.Placed as refusal
 use Rattle.blockform.specs.Faults.{form_refusal}
 use Rattle.coinsview.specs.Fault.{reason_of}
 use Rattle.connecting.specs.declared.fault.InputFault.{InputFault}
@@ -19,7 +20,7 @@ input_reason input.Shut = reason.Shut
 input_reason (input.View f) = reason_of f
 
 abbrev pub placed : Reason → ℕ → ℕ → Refusal
-placed r first second = record { reason = r; first = first; second = second }
+placed = refusal.placed
 
 -- of the transaction at place t of its block
 abbrev pub transaction_refusal : ℕ → TransactionFault → Refusal

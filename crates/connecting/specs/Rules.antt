@@ -2,7 +2,7 @@
 --     checks      what is tested before a coin is touched
 --     needs       the undo entries that a block needs
 --     effect      the transactions applied in order, and the coinbase's claim
-use Rattle.std.specs.Prelude.{◌≡◌, ℕ, ◌+◌, ◌-◌, ◌<◌, ◌≤◌, Bool, true, false, cond, ◌&&◌, ◌⊎◌, List, [], ◌∷◌, length, Some, None, Ok, Err, Option, Result, ◌==◌, nat_le, nat_lt}
+use Rattle.std.specs.Prelude.{◌≡◌, ℕ, ◌+◌, ◌-◌, ◌^◌, ◌<◌, ◌≤◌, Bool, true, false, cond, ◌&&◌, ◌⊎◌, List, [], ◌∷◌, length, Some, None, Ok, Err, Option, Result, ◌==◌, nat_le, nat_lt}
 use Rattle.std.specs.declared.cmp.Ordering.TheVariants.{Less, Equal, Greater}
 use Rattle.std.specs.declared.cmp.Ordering.{Ordering}
 use Rattle.std.proofs.Common.{inl, inr}
@@ -170,19 +170,23 @@ module _ (opens : Lock → List ℕ → ℕ → Bool) (maturity h : ℕ) where
   spend_all i [] m paid = Ok (m, paid)
   spend_all i (x ∷ xs) m paid = then (at_item i (spend (coin_at x.outpoint m) x.witness)) (λ c. spend_all (i + 1) xs (without x.outpoint m) (paid + c.value))
 
-module _ (room h : ℕ) where
-  -- one output at place i of a transaction, by the coin that it makes
-  abbrev pub make : List ℕ → ℕ → Option Coin → Coins → Result Coins TransactionFault
-  make id i None m = Err (Money i)
-  make id i (Some c) m = then (at_item i (of_view (put_answer room (record { id = id; index = i }) m))) (λ _. Ok (with_coin (record { id = id; index = i }) c m))
+-- one output at place i of a transaction, by the coin that it makes
+abbrev pub make : ℕ → List ℕ → ℕ → Option Coin → Coins → Result Coins TransactionFault
+make room id i None m = Err (Money i)
+make room id i (Some c) m = then (at_item i (of_view (put_answer room (record { id = id; index = i }) m))) (λ _. Ok (with_coin (record { id = id; index = i }) c m))
 
+module _ (room h : ℕ) where
   -- the outputs from place i on, those that burn aside
   abbrev pub make_all : List ℕ → Bool → ℕ → List OutputValue → Coins → Result Coins TransactionFault
   make_all id b i [] m = Ok m
-  make_all id b i (y ∷ ys) m = then (cond (burns y) (Ok m) (make id i (coin_of y h b) m)) (λ n. make_all id b (i + 1) ys n)
+  make_all id b i (y ∷ ys) m = then (cond (burns y) (Ok m) (make room id i (coin_of y h b) m)) (λ n. make_all id b (i + 1) ys n)
 
 abbrev pub none : Sums
 none = record { made = 0; spent = 0; fees = 0; burned = 0 }
+
+-- sums that can be added
+abbrev pub Fit : Sums → Sums → Type 0
+Fit a b = (a.made + b.made < 2 ^ 64) × (a.spent + b.spent < 2 ^ 64) × (a.fees + b.fees < 2 ^ 64) × (a.burned + b.burned < 2 ^ 64)
 
 abbrev pub added : Sums → Sums → Sums
 added a b = record { made = a.made + b.made; spent = a.spent + b.spent; fees = a.fees + b.fees; burned = a.burned + b.burned }

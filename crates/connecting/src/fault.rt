@@ -1,8 +1,7 @@
 // Why a block is refused, layer by layer. A fault keeps its number, place and layer on its way up.
 ghost use Rattle.std.specs.Prelude.{◌≡◌, Ok, Err, MatchResult};
-ghost use Rattle.connecting.specs.Refusals.{input_reason, placed as placed_at, transaction_refusal, block_refusal};
+ghost use Rattle.connecting.specs.Refusals.{input_reason, transaction_refusal, block_refusal};
 ghost use Rattle.connecting.specs.declared.fault.InputFault.TheVariants.{View as OfView};
-ghost use Rattle.connecting.specs.declared.fault.TransactionFault.TheVariants.{Item as AtItem};
 ghost use Rattle.connecting.specs.declared.fault.BlockFault.TheVariants.{Form as OfForm, Transaction as AtTransaction};
 
 use blockform::fault::FormFault;
@@ -61,16 +60,6 @@ impl From<FormFault> for BlockFault {
     }
 }
 
-// An input's or an output's answer, with its place in the transaction.
-pub fn at_item<X>(r: Result<X, InputFault>, item: usize) -> Result<X, TransactionFault>
-    ensures { MatchResult r (λ x. result ≡ Ok x) (λ f. result ≡ Err (AtItem item f)) }
-{
-    match r {
-        Ok(x) => Ok(x),
-        Err(fault) => Err(TransactionFault::Item { item, fault }),
-    }
-}
-
 // A transaction's answer, with its place in the block.
 pub fn at_transaction<X>(
     r: Result<X, TransactionFault>,
@@ -78,32 +67,19 @@ pub fn at_transaction<X>(
 ) -> Result<X, BlockFault>
     ensures { MatchResult r (λ x. result ≡ Ok x) (λ f. result ≡ Err (AtTransaction transaction f)) }
 {
-    match r {
-        Ok(x) => Ok(x),
-        Err(fault) => Err(BlockFault::Transaction { transaction, fault }),
-    }
+    r.map_err(|fault| BlockFault::Transaction { transaction, fault })
 }
 
-impl InputFault {
-    pub fn reason(self) -> Reason
-        ensures { result ≡ input_reason self }
-    {
-        match self {
+impl From<InputFault> for Reason {
+    ghost from_gives = { λ f r. r ≡ input_reason f };
+
+    fn from(f: InputFault) -> Reason {
+        match f {
             InputFault::Missing => Reason::Missing,
             InputFault::Immature => Reason::Immature,
             InputFault::Shut => Reason::Shut,
             InputFault::View(f) => f.reason(),
         }
-    }
-}
-
-fn placed(reason: Reason, first: usize, second: usize) -> Refusal
-    ensures { result ≡ placed_at reason first second }
-{
-    Refusal {
-        reason,
-        first: first as u64,
-        second: second as u64,
     }
 }
 
@@ -113,29 +89,29 @@ impl TransactionFault {
         ensures { result ≡ transaction_refusal t self }
     {
         match self {
-            TransactionFault::Coinbase2 => placed(Reason::Coinbase2, t, 0),
-            TransactionFault::CbData => placed(Reason::CbData, t, 0),
-            TransactionFault::NoInput => placed(Reason::NoInput, t, 0),
-            TransactionFault::NoOutput => placed(Reason::NoOutput, t, 0),
-            TransactionFault::Money { output } => placed(Reason::Money, t, output),
-            TransactionFault::Under => placed(Reason::Under, t, 0),
-            TransactionFault::Null { input } => placed(Reason::Null, t, input),
-            TransactionFault::Item { item, fault } => placed(fault.reason(), t, item),
+            TransactionFault::Coinbase2 => Reason::Coinbase2.at(t, 0),
+            TransactionFault::CbData => Reason::CbData.at(t, 0),
+            TransactionFault::NoInput => Reason::NoInput.at(t, 0),
+            TransactionFault::NoOutput => Reason::NoOutput.at(t, 0),
+            TransactionFault::Money { output } => Reason::Money.at(t, output),
+            TransactionFault::Under => Reason::Under.at(t, 0),
+            TransactionFault::Null { input } => Reason::Null.at(t, input),
+            TransactionFault::Item { item, fault } => Reason::from(fault).at(t, item),
         }
     }
 }
 
-impl BlockFault {
-    pub fn refusal(self) -> Refusal
-        ensures { result ≡ block_refusal self }
-    {
-        match self {
-            BlockFault::Form(f) => f.refusal(),
-            BlockFault::Parent => placed(Reason::Parent, 0, 0),
-            BlockFault::LastHeight => placed(Reason::LastHeight, 0, 0),
-            BlockFault::LogFull => placed(Reason::LogFull, 0, 0),
-            BlockFault::NoCoinbase => placed(Reason::NoCoinbase, 0, 0),
-            BlockFault::Claim => placed(Reason::Claim, 0, 0),
+impl From<BlockFault> for Refusal {
+    ghost from_gives = { λ f r. r ≡ block_refusal f };
+
+    fn from(f: BlockFault) -> Refusal {
+        match f {
+            BlockFault::Form(f) => f.into(),
+            BlockFault::Parent => Reason::Parent.into(),
+            BlockFault::LastHeight => Reason::LastHeight.into(),
+            BlockFault::LogFull => Reason::LogFull.into(),
+            BlockFault::NoCoinbase => Reason::NoCoinbase.into(),
+            BlockFault::Claim => Reason::Claim.into(),
             BlockFault::Transaction { transaction, fault } => fault.refusal(transaction),
         }
     }

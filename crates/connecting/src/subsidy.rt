@@ -6,11 +6,6 @@ ghost use Rattle.connecting.specs.Subsidy.{subsidy_at};
 pub fn subsidy(interval: u32, height: u32) -> u64
     ensures { result ≡ subsidy_at interval height }
 {
-    let Some(halvings) = height.checked_div(interval) else {
-        return 5_000_000_000;
-    };
-    if halvings >= 64 {
-        return 0;
-    }
-    5_000_000_000 >> halvings
+    let halvings = height.checked_div(interval).unwrap_or(0);
+    5_000_000_000u64.checked_shr(halvings).unwrap_or(0)
 }

@@ -62,7 +62,7 @@ fn perform<V: CoinsView, C: SpendCondition>(
                     burned: done.burned,
                 },
             ),
-            Err(fault) => Line::Refused(fault.refusal()),
+            Err(fault) => Line::Refused(Refusal::from(fault)),
         },
         Command::Disconnect => ledger.disconnect().map_or_else(
             refused,

@@ -28,7 +28,7 @@ pub fn printout_of<'a, V: CoinsView, C: SpendCondition>(
     let file = match FileReader::new(blocks) {
         Ok(file) => file,
         Err(fault) => {
-            append(&mut text, Line::Refused(fault.refusal()))?;
+            append(&mut text, Line::Refused(fault.into()))?;
             return Ok(text);
         }
     };

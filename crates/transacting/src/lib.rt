@@ -1,180 +1,171 @@
 // The inputs and the outputs of one transaction applied to the coins, with an undo entry for each coin taken and each coin put.
 #![tactic(auto)]
 
-ghost use Rattle.std.specs.Prelude.{◌≡◌, ◌+◌, ◌*◌, ◌<◌, ◌≤◌, true, length, is_ok, IfOk, if◌then◌else◌, Ok, Err, MatchResult, OnOk};
+ghost use Rattle.std.specs.Prelude.{◌≡◌, ◌+◌, ◌*◌, ◌<◌, ◌≤◌, length, is_ok, IfOk, if◌then◌else◌, Ok, Err, MatchResult, OnOk};
 ghost use Rattle.undo.specs.Entries.{entries};
-ghost use Rattle.coinsview.specs.Meaning.{coin_at, with_coin, without, put_answer};
-ghost use Rattle.blockform.specs.Readers.{items_of, ItemsGood};
+ghost use Rattle.coinsview.specs.Meaning.{coin_at, without};
+ghost use Rattle.blockform.specs.Readers.{items_of};
+ghost use Rattle.connecting.specs.Applied.{Answers, spent, made};
 ghost use Rattle.connecting.specs.Parts.{inputs_in, outputs_in};
-ghost use Rattle.connecting.specs.Rules.{of_view, worth as worthOf, coins_made, value_burned, coin_of, spend as spendBy, spend_all, make as makeBy, make_all};
-ghost use Rattle.unwinding.specs.Undoing.{back};
+ghost use Rattle.connecting.specs.Rules.{worth as worthOf, coins_made, coin_of, spend as spendBy, make as makeBy};
+ghost use Rattle.unwinding.specs.TakenBack.{TakenBack};
 
 use blockform::reader::{Item, Items, Transaction};
 use coins::coin::{Coin, Lock, MAX_VALUE};
 use coins::outpoint::Outpoint;
 use coinsview::view::CoinsView;
-use connecting::block::Site;
-use connecting::fault::{InputFault, TransactionFault, at_item};
-use undo::{Record, Undo};
+use connecting::block::{Site, Sums};
+use connecting::fault::{InputFault, TransactionFault};
+use undo::Record;
+use unwinding::chainstate::Chainstate;
 use views::condition::SpendCondition;
 
-// Takes the coin of an outpoint: it has to be there, old enough, and opened by the witness.
+// Takes the coin of an outpoint, and notes it: it has to be there, old enough, and opened by the witness.
 fn spend<V: CoinsView, C: SpendCondition>(
-    view: &mut V,
-    condition: &C,
-    at: &Outpoint,
+    state: &mut Chainstate<V>,
+    site: &Site<'_, C>,
+    at: Outpoint,
     witness: &[u8],
-    site: Site,
 ) -> Result<Coin, InputFault>
-    requires { V.CoinsView.ok view.old }
-    ensures well { V.CoinsView.ok view.new }
-    ensures fixed { V.CoinsView.most view.new ≡ V.CoinsView.most view.old }
-    ensures value { result ≡ spendBy (C.SpendCondition.opens condition.now) site.maturity site.height (coin_at at.now (V.CoinsView.coins view.old)) witness.now }
-    ensures map { V.CoinsView.coins view.new ≡ (if is_ok result then without at.now (V.CoinsView.coins view.old) else V.CoinsView.coins view.old) }
+    requires { length (entries state.old.undo) < 512 }
+    ensures value { result ≡ spendBy (C.SpendCondition.opens site.now.condition.now) site.now.maturity site.now.height (coin_at at (V.CoinsView.coins state.old.view)) witness.now }
+    ensures map { V.CoinsView.coins state.new.view ≡ (if is_ok result then without at (V.CoinsView.coins state.old.view) else V.CoinsView.coins state.old.view) }
+    ensures taken { TakenBack V.CoinsView state.old state.new }
+    ensures long { OnOk result (length (entries state.new.undo) ≡ length (entries state.old.undo) + 1) }
 {
-    let Some(coin) = view.look(at) else {
+    let Some(coin) = state.view.look(&at) else {
         return Err(InputFault::Missing);
     };
     if coin.coinbase && site.height.saturating_sub(coin.height) < site.maturity {
         return Err(InputFault::Immature);
     }
-    if !condition.opens(&coin.lock, witness, site.height) {
+    if !site.condition.opens(&coin.lock, witness, site.height) {
         return Err(InputFault::Shut);
     }
-    let _ = view.take(at);
+    let _ = state.view.take(&at);
+    // The room was tested before the first coin was touched.
+    let _ = state.undo.push(Record::Spent(at, coin));
     Ok(coin)
 }
 
 // Takes the coins of a transaction's inputs in order. Answers what they are worth.
 pub fn spend_inputs<V: CoinsView, C: SpendCondition>(
-    view: &mut V,
-    condition: &C,
-    chain: &mut Undo,
-    mut inputs: Items<'_>,
-    site: Site,
+    state: &mut Chainstate<V>,
+    site: &Site<'_, C>,
+    inputs: Items<'_>,
 ) -> Result<u64, TransactionFault>
-    requires well { V.CoinsView.ok view.old }
-    requires good { ItemsGood inputs }
-    requires room { length (entries chain.old) + length (inputs_in (items_of inputs)) ≤ 512 }
-    ensures well { V.CoinsView.ok view.new }
-    ensures fixed { V.CoinsView.most view.new ≡ V.CoinsView.most view.old }
-    ensures value { MatchResult result (λ paid. spend_all (C.SpendCondition.opens condition.now) site.maturity site.height 0 (inputs_in (items_of inputs.entry)) (V.CoinsView.coins view.old) 0 ≡ Ok (V.CoinsView.coins view.new, paid)) (λ f. spend_all (C.SpendCondition.opens condition.now) site.maturity site.height 0 (inputs_in (items_of inputs.entry)) (V.CoinsView.coins view.old) 0 ≡ Err f) }
-    ensures back { back (V.CoinsView.most view.old) (entries chain.new) (V.CoinsView.coins view.new) true ≡ back (V.CoinsView.most view.old) (entries chain.old) (V.CoinsView.coins view.old) true }
-    ensures long { OnOk result (length (entries chain.new) ≡ length (entries chain.old) + length (inputs_in (items_of inputs.entry))) }
+    requires { length (entries state.old.undo) + length (inputs_in (items_of inputs)) ≤ 512 }
+    ensures value { Answers (spent C.SpendCondition.opens site.now (inputs_in (items_of inputs.entry)) (V.CoinsView.coins state.old.view)) result (V.CoinsView.coins state.new.view) }
+    ensures taken { TakenBack V.CoinsView state.old state.new }
+    ensures long { OnOk result (length (entries state.new.undo) ≡ length (entries state.old.undo) + length (inputs_in (items_of inputs.entry))) }
     ensures few { IfOk result (λ paid. paid ≤ 64 * 2100000000000000) }
 {
     let mut paid = 0;
-    let mut item = 0;
-    while let Some(
-        Item::Input {
+    for (item, input) in inputs.enumerate() {
+        let Item::Input {
             id,
             index,
             witness,
             ..
-        },
-    ) = inputs.next()
-    {
+        } = input
+        else {
+            break;
+        };
         let at = Outpoint { id: *id, index };
-        let coin = at_item(spend(view, condition, &at, witness, site), item)?;
-        // The room was tested before the first coin was touched.
-        let _ = chain.push(Record::Spent(at, coin));
+        let coin = spend(state, site, at, witness).map_err(|fault| TransactionFault::Item {
+            item,
+            fault,
+        })?;
         paid += coin.value;
-        item += 1;
     }
     Ok(paid)
 }
 
 // What a transaction's outputs are worth.
-pub fn outputs_worth(mut outputs: Items<'_>) -> u64
-    requires good { ItemsGood outputs }
-    requires money { worthOf (outputs_in (items_of outputs)) ≤ 2100000000000000 }
+pub fn outputs_worth(outputs: Items<'_>) -> u64
+    requires { worthOf (outputs_in (items_of outputs)) ≤ 2100000000000000 }
     ensures { result ≡ worthOf (outputs_in (items_of outputs.entry)) }
 {
+    // `map_while` and `sum` were tried: a reader says what each call hands out, not its whole run, so the bound got no proof.
     let mut sum = 0;
-    while let Some(Item::Output { value, .. }) = outputs.next() {
+    for output in outputs {
+        let Item::Output { value, .. } = output else {
+            break;
+        };
         sum += value;
     }
     sum
 }
 
-// Puts the coin of an output.
-fn make<V: CoinsView>(view: &mut V, at: Outpoint, coin: Coin) -> Result<(), InputFault>
-    requires { V.CoinsView.ok view.old }
-    ensures well { V.CoinsView.ok view.new }
-    ensures fixed { V.CoinsView.most view.new ≡ V.CoinsView.most view.old }
-    ensures value { result ≡ of_view (put_answer (V.CoinsView.most view.old) at (V.CoinsView.coins view.old)) }
-    ensures map { V.CoinsView.coins view.new ≡ (if is_ok result then with_coin at coin (V.CoinsView.coins view.old) else V.CoinsView.coins view.old) }
+// The coin that an output makes. No coin is worth more than the greatest value.
+fn made_coin(value: u64, lock: Lock, height: u32, coinbase: bool) -> Option<Coin>
+    ensures { result ≡ coin_of (record { value = value; lock = lock }) height coinbase }
 {
-    view.put(at, coin)?;
-    Ok(())
-}
-
-// Makes the coin of an output, and notes it. No coin is worth more than the greatest value.
-fn make_one<V: CoinsView>(
-    view: &mut V,
-    chain: &mut Undo,
-    at: Outpoint,
-    value: u64,
-    lock: Lock,
-    site: Site,
-    coinbase: bool,
-) -> Result<(), TransactionFault>
-    requires well { V.CoinsView.ok view.old }
-    requires room { length (entries chain.old) < 512 }
-    ensures well { V.CoinsView.ok view.new }
-    ensures fixed { V.CoinsView.most view.new ≡ V.CoinsView.most view.old }
-    ensures value { MatchResult result (λ _. makeBy (V.CoinsView.most view.old) site.height at.id at.index (coin_of (record { value = value; lock = lock }) site.height coinbase) (V.CoinsView.coins view.old) ≡ Ok (V.CoinsView.coins view.new)) (λ f. makeBy (V.CoinsView.most view.old) site.height at.id at.index (coin_of (record { value = value; lock = lock }) site.height coinbase) (V.CoinsView.coins view.old) ≡ Err f) }
-    ensures back { back (V.CoinsView.most view.old) (entries chain.new) (V.CoinsView.coins view.new) true ≡ back (V.CoinsView.most view.old) (entries chain.old) (V.CoinsView.coins view.old) true }
-    ensures long { OnOk result (length (entries chain.new) ≡ length (entries chain.old) + 1) }
-{
-    let place = at.index as usize;
     if value > MAX_VALUE {
-        return Err(TransactionFault::Money { output: place });
+        return None;
     }
-    let coin = Coin {
+    Some(Coin {
         value,
         lock,
-        height: site.height,
+        height,
         coinbase,
-    };
-    at_item(make(view, at, coin), place)?;
+    })
+}
+
+// Puts the coin of an output, and notes it.
+fn make<V: CoinsView>(
+    state: &mut Chainstate<V>,
+    at: Outpoint,
+    coin: Option<Coin>,
+) -> Result<(), TransactionFault>
+    requires { length (entries state.old.undo) < 512 }
+    ensures value { MatchResult result (λ _. makeBy (V.CoinsView.most state.old.view) at.id at.index coin (V.CoinsView.coins state.old.view) ≡ Ok (V.CoinsView.coins state.new.view)) (λ f. makeBy (V.CoinsView.most state.old.view) at.id at.index coin (V.CoinsView.coins state.old.view) ≡ Err f) }
+    ensures taken { TakenBack V.CoinsView state.old state.new }
+    ensures long { OnOk result (length (entries state.new.undo) ≡ length (entries state.old.undo) + 1) }
+{
+    let item = at.index as usize;
+    let coin = coin.ok_or(TransactionFault::Money { output: item })?;
+    state
+        .view
+        .put(at, coin)
+        .map_err(|fault| TransactionFault::Item {
+            item,
+            fault: fault.into(),
+        })?;
     // The room was tested before the first coin was touched.
-    let _ = chain.push(Record::Made(at, coin));
+    let _ = state.undo.push(Record::Made(at, coin));
     Ok(())
 }
 
 // Puts the coins of a transaction's outputs in order, those of kind 0 aside. Answers how many were made and what was burned.
-pub fn make_outputs<V: CoinsView>(
-    view: &mut V,
-    chain: &mut Undo,
+pub fn make_outputs<V: CoinsView, C: SpendCondition>(
+    state: &mut Chainstate<V>,
+    site: &Site<'_, C>,
     tx: &Transaction<'_>,
-    site: Site,
     coinbase: bool,
-) -> Result<(u64, u64), TransactionFault>
-    requires well { V.CoinsView.ok view.old }
-    requires good { ItemsGood tx.now.outputs }
+) -> Result<Sums, TransactionFault>
     requires money { worthOf (outputs_in (items_of tx.now.outputs)) ≤ 2100000000000000 }
-    requires room { length (entries chain.old) + coins_made (outputs_in (items_of tx.now.outputs)) ≤ 512 }
-    ensures well { V.CoinsView.ok view.new }
-    ensures fixed { V.CoinsView.most view.new ≡ V.CoinsView.most view.old }
-    ensures value { MatchResult result (λ p. (make_all (V.CoinsView.most view.old) site.height tx.now.id.now coinbase 0 (outputs_in (items_of tx.now.outputs)) (V.CoinsView.coins view.old) ≡ Ok (V.CoinsView.coins view.new)) × (p.0 ≡ coins_made (outputs_in (items_of tx.now.outputs))) × (p.1 ≡ value_burned (outputs_in (items_of tx.now.outputs)))) (λ f. make_all (V.CoinsView.most view.old) site.height tx.now.id.now coinbase 0 (outputs_in (items_of tx.now.outputs)) (V.CoinsView.coins view.old) ≡ Err f) }
-    ensures back { back (V.CoinsView.most view.old) (entries chain.new) (V.CoinsView.coins view.new) true ≡ back (V.CoinsView.most view.old) (entries chain.old) (V.CoinsView.coins view.old) true }
-    ensures long { OnOk result (length (entries chain.new) ≡ length (entries chain.old) + coins_made (outputs_in (items_of tx.now.outputs))) }
-    ensures few { IfOk result (λ p. (p.0 ≤ 64) × (p.1 ≤ 2100000000000000)) }
+    requires room { length (entries state.old.undo) + coins_made (outputs_in (items_of tx.now.outputs)) ≤ 512 }
+    ensures value { Answers (made (V.CoinsView.most state.old.view) site.now tx.now.id.now coinbase (outputs_in (items_of tx.now.outputs)) (V.CoinsView.coins state.old.view)) result (V.CoinsView.coins state.new.view) }
+    ensures taken { TakenBack V.CoinsView state.old state.new }
+    ensures long { OnOk result (length (entries state.new.undo) ≡ length (entries state.old.undo) + coins_made (outputs_in (items_of tx.now.outputs))) }
+    ensures few { IfOk result (λ a. (a.made ≤ 64) × (a.spent ≡ 0) × (a.fees ≡ 0) × (a.burned ≤ 2100000000000000)) }
 {
-    let mut outputs = tx.outputs;
-    let mut made = 0;
-    let mut burned = 0;
-    let mut index = 0;
-    while let Some(Item::Output { value, lock, .. }) = outputs.next() {
+    let mut sums = Sums::default();
+    for (index, output) in tx.outputs.enumerate() {
+        let Item::Output { value, lock, .. } = output else {
+            break;
+        };
         if lock.kind == 0 {
-            burned += value;
+            sums.burned += value;
         } else {
-            let at = Outpoint { id: *tx.id, index };
-            make_one(view, chain, at, value, lock, site, coinbase)?;
-            made += 1;
+            let at = Outpoint {
+                id: *tx.id,
+                index: index as u32,
+            };
+            make(state, at, made_coin(value, lock, site.height, coinbase))?;
+            sums.made += 1;
         }
-        index += 1;
     }
-    Ok((made, burned))
+    Ok(sums)
 }

@@ -1,1 +1,2 @@
 pub mod Undoing
+pub mod TakenBack

@@ -1,29 +1,29 @@
-use Rattle.std.proofs.Common.{◌≡◌, ◌+◌, ◌*◌, ◌≤◌, true, length}
+use Rattle.std.proofs.Common.{◌≡◌, ◌+◌, ◌*◌, ◌≤◌, length}
 use Rattle.undo.specs.Entries.{entries}
 use Rattle.blockform.specs.Value.{All}
-use Rattle.blockform.specs.Readers.{transactions_of, TransactionsGood}
+use Rattle.blockform.specs.Readers.{transactions_of}
 use Rattle.connecting.specs.Applied.{setting, Moneyed}
 use Rattle.connecting.specs.Rules.{others_needs, none, spending_all}
-use Rattle.unwinding.specs.Undoing.{back}
+use Rattle.unwinding.specs.TakenBack.{TakenBack}
 use Rattle.applying.proofs.apply_others.Given as goal
 
 -- what is left answers what the whole answers, and the way back leads to where it led
-abbrev pub invariant-loop-tx : goal.invariant-loop-tx
-invariant-loop-tx g l =
+abbrev pub invariant-loop-before : goal.invariant-loop-before
+invariant-loop-before g l =
     let v = g.V.CoinsView in
-    let s = setting (v.most l.initial.view) (g.C.SpendCondition.opens l.condition) l.site in
-    v.ok l.view ×
-    (v.most l.view ≡ v.most l.initial.view) ×
-    TransactionsGood l.others ×
-    (l.t + length (transactions_of l.others) ≤ 65) ×
-    All Moneyed (transactions_of l.others) ×
-    (length (entries l.chain) + others_needs (transactions_of l.others) ≡ length (entries l.initial.chain) + others_needs (transactions_of l.initial.others)) ×
-    (l.sums.made + 64 ≤ l.t * 64) ×
-    (l.sums.spent + 64 ≤ l.t * 64) ×
-    (l.sums.fees + 134400000000000000 ≤ l.t * 134400000000000000) ×
-    (l.sums.burned + 2100000000000000 ≤ l.t * 2100000000000000) ×
-    (spending_all s l.site.height 1 (transactions_of l.initial.others) (v.coins l.initial.view) none ≡ spending_all s l.site.height l.t (transactions_of l.others) (v.coins l.view) l.sums) ×
-    (back (v.most l.initial.view) (entries l.chain) (v.coins l.view) true ≡ back (v.most l.initial.view) (entries l.initial.chain) (v.coins l.initial.view) true)
-
-abbrev pub decreases-loop-tx : goal.decreases-loop-tx
-decreases-loop-tx g l = length (transactions_of l.others)
+    let s = l.initial.state in
+    let k = setting (v.most s.view) g.C.SpendCondition.opens l.site in
+    let h = l.site.height in
+    let t = l.before-iterator.count in
+    let left = transactions_of l.before-iterator.iter in
+    record {
+      taken : TakenBack v s l.state;
+      count : t + length left ≤ 64;
+      money : All Moneyed left;
+      long : length (entries l.state.undo) + others_needs left ≡ length (entries s.undo) + others_needs (transactions_of l.fn.others);
+      made : l.sums.made ≤ t * 64;
+      spent : l.sums.spent ≤ t * 64;
+      fees : l.sums.fees ≤ t * 134400000000000000;
+      burned : l.sums.burned ≤ t * 2100000000000000;
+      value : spending_all k h 1 (transactions_of l.fn.others) (v.coins s.view) none ≡ spending_all k h (t + 1) left (v.coins l.state.view) l.sums;
+    }

@@ -31,16 +31,12 @@ fn take_record<'a>(file: &'a [u8], place: &mut usize) -> Result<&'a [u8], FileFa
     if file.len() <= at {
         return Err(FileFault::Ended);
     }
-    let rest = file.split_at(at).1;
-    let [a, b, c, d, tail @ ..] = rest else {
-        return Err(FileFault::Cut { at });
-    };
-    let size = u32::from_le_bytes([*a, *b, *c, *d]) as usize;
-    if tail.len() < size {
-        return Err(FileFault::Cut { at });
-    }
+    let cut = FileFault::Cut { at };
+    let (length, tail) = file.split_at(at).1.split_first_chunk::<4>().ok_or(cut)?;
+    let size = u32::from_le_bytes(*length) as usize;
+    let block = tail.get(..size).ok_or(cut)?;
     *place = at + 4 + size;
-    Ok(tail.split_at(size).0)
+    Ok(block)
 }
 
 impl<'a> FileReader<'a> {
@@ -88,12 +84,12 @@ impl<'a> FileReader<'a> {
             saved,
         };
         let block = take_record(file, guard.place)?;
-        let Some((id, rest)) = block.split_first_chunk::<32>() else {
-            return Err(FormFault::Cut { at: 0 })?;
-        };
-        let Some((previous, _)) = rest.split_first_chunk::<32>() else {
-            return Err(FormFault::Cut { at: 32 })?;
-        };
+        let (id, rest) = block
+            .split_first_chunk::<32>()
+            .ok_or(FormFault::Cut { at: 0 })?;
+        let (previous, _) = rest
+            .split_first_chunk::<32>()
+            .ok_or(FormFault::Cut { at: 32 })?;
         Ok((id, previous))
     }
 }

@@ -6,7 +6,7 @@ ghost use Rattle.blockbytes.specs.Value.{BlockValue};
 ghost use Rattle.blockform.specs.Readers.{block_of, transactions_of, next_transaction, BlockGood, TransactionsGood};
 
 use crate::MAX_BLOCK;
-use crate::reader::fields::id_at;
+use crate::reader::fields::array_at;
 use crate::reader::{Block, Transactions};
 use blockbytes::fault::FormFault;
 use blockbytes::form;
@@ -26,21 +26,18 @@ impl<'a> Block<'a> {
     }
 
     pub fn id(&self) -> &'a [u8; 32]
-        requires { BlockGood self.now }
         ensures { result.now ≡ (block_of self.now).id }
     {
-        id_at(self.bytes, 0)
+        array_at(self.bytes, 0)
     }
 
     pub fn previous(&self) -> &'a [u8; 32]
-        requires { BlockGood self.now }
         ensures { result.now ≡ (block_of self.now).previous }
     {
-        id_at(self.bytes, 32)
+        array_at(self.bytes, 32)
     }
 
     pub fn transactions(&self) -> Transactions<'a>
-        requires { BlockGood self.now }
         ensures good { TransactionsGood result }
         ensures all { transactions_of result ≡ (block_of self.now).transactions }
         ensures offset { next_transaction result ≡ 65 }

@@ -14,17 +14,17 @@ first_is : (t : Transaction) (v : TransactionValue) (b : _) → Hands t v → (l
 first_is t v b h f = let r = reads t v h in f (ap length r.inputs ∙ sym r.input_count) ∙ ap is_coinbase r.inputs
 
 pub returns-in_default : goal.returns-in_default
-returns-in_default c = record { is = sym (ap (λ x. then (transactions_checks x) (λ _. Ok (transactions_needs x))) c.in_default.ensures.hands.0); few = tt }
+returns-in_default c = record { is = sym (ap (λ x. then (transactions_checks x) (λ _. Ok (transactions_needs x))) c.in_default.ensures.steps.0); few = tt }
 
 pub returns-then-not-is_coinbase : goal.returns-then-not-is_coinbase
 returns-then-not-is_coinbase c =
-    let h = c.in-Some.ensures.hands in
+    let h = c.in-Some.ensures.steps in
     let b = first_is _ h.0 _ h.1 c.is_coinbase.ensures in
     record { is = sym (not_first _ _ h.0 h.2 (sym b ∙ c.if-not-is_coinbase.true)); few = tt }
 
 pub returns-in_err-made : goal.returns-in_err-made
 returns-in_err-made c =
-    let h = c.in-Some.ensures.hands in
+    let h = c.in-Some.ensures.steps in
     let b = first_is _ h.0 _ h.1 c.is_coinbase.ensures in
     let p = err_from_is_err_and c.from_residual.result c.from_residual.ensures.1 in
     record {
@@ -34,7 +34,7 @@ returns-in_err-made c =
 
 pub returns-in_err-needed : goal.returns-in_err-needed
 returns-in_err-needed c =
-    let h = c.in-Some.ensures.hands in
+    let h = c.in-Some.ensures.steps in
     let b = first_is _ h.0 _ h.1 c.is_coinbase.ensures in
     let p = err_from_is_err_and c.from_residual-in_err-needed.result c.from_residual-in_err-needed.ensures.1 in
     record {
@@ -44,7 +44,7 @@ returns-in_err-needed c =
 
 pub returns : goal.returns
 returns c =
-    let h = c.in-Some.ensures.hands in
+    let h = c.in-Some.ensures.steps in
     let b = first_is _ h.0 _ h.1 c.is_coinbase.ensures in
     let one = within 0 _ 64 _ _ c.check_coinbase.ensures.few c.at_transaction.ensures c.in_ok-made.was in
     record {

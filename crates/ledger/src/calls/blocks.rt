@@ -2,7 +2,7 @@
 ghost use Rattle.std.specs.Prelude.{◌≡◌, ◌+◌, ◌≤◌, min, true, false, length, is_ok, Some, Ok, Err, MatchResult, OnOk, if◌then◌else◌};
 ghost use Rattle.undo.specs.Entries.{entries};
 ghost use Rattle.blockform.specs.Value.{All};
-ghost use Rattle.blockform.specs.Readers.{block_of, BlockGood};
+ghost use Rattle.blockform.specs.Readers.{block_of};
 ghost use Rattle.connecting.specs.Applied.{setting, Moneyed};
 ghost use Rattle.connecting.specs.Rules.{effect, needs as needsOf};
 ghost use Rattle.unwinding.specs.Undoing.{back};
@@ -20,7 +20,6 @@ use connecting::block::{Site, Sums};
 use connecting::fault::BlockFault;
 use undo::Record;
 use unwinding::chainstate::Chainstate;
-use unwinding::unwind;
 use views::condition::SpendCondition;
 
 impl<V: CoinsView, C: SpendCondition> Ledger<V, C> {
@@ -37,11 +36,12 @@ impl<V: CoinsView, C: SpendCondition> Ledger<V, C> {
         }
         let height = chain.tip.height + 1;
         let site = Site {
+            condition: &self.condition,
             height,
             maturity: chain.terms.maturity,
             halving: chain.terms.halving,
         };
-        let sums = apply(&mut self.state, &self.condition, &block, site)?;
+        let sums = apply(&mut self.state, &site, &block)?;
         let id = *block.id();
         self.active = Some(ActiveChain {
             terms: chain.terms,
@@ -77,9 +77,7 @@ impl<V: CoinsView, C: SpendCondition> Ledger<V, C> {
         if chain.kept == 0 {
             return Err(LedgerFault::Nothing);
         }
-        let Some(unwound) = unwind(&mut self.state.view, &mut self.state.undo) else {
-            return Err(LedgerFault::Nothing);
-        };
+        let unwound = self.state.unwind().ok_or(LedgerFault::Nothing)?;
         let id = unwound.previous;
         let height = chain.tip.height;
         self.active = Some(ActiveChain {
@@ -119,23 +117,21 @@ impl<V: CoinsView, C: SpendCondition> Ledger<V, C> {
 // Applies a block that has passed its checks, or leaves the coins and the undo entries as they read before.
 fn apply<V: CoinsView, C: SpendCondition>(
     state: &mut Chainstate<V>,
-    condition: &C,
+    site: &Site<'_, C>,
     block: &Block<'_>,
-    site: Site,
 ) -> Result<Sums, BlockFault>
-    requires good { BlockGood block.now }
     requires money { All Moneyed (block_of block.now).transactions }
     requires room { length (entries state.old.undo) + needsOf (block_of block.now) ≤ 512 }
     ensures fixed { V.CoinsView.most state.new.view ≡ V.CoinsView.most state.old.view }
-    ensures value { MatchResult result (λ a. effect (setting (V.CoinsView.most state.old.view) (C.SpendCondition.opens condition.now) site) site.height (block_of block.now).transactions (V.CoinsView.coins state.old.view) ≡ Ok (V.CoinsView.coins state.new.view, a)) (λ f. (effect (setting (V.CoinsView.most state.old.view) (C.SpendCondition.opens condition.now) site) site.height (block_of block.now).transactions (V.CoinsView.coins state.old.view) ≡ Err f) × (V.CoinsView.coins state.new.view ≡ V.CoinsView.coins state.old.view) × (entries state.new.undo ≡ entries state.old.undo)) }
+    ensures value { MatchResult result (λ a. effect (setting (V.CoinsView.most state.old.view) C.SpendCondition.opens site.now) site.now.height (block_of block.now).transactions (V.CoinsView.coins state.old.view) ≡ Ok (V.CoinsView.coins state.new.view, a)) (λ f. (effect (setting (V.CoinsView.most state.old.view) C.SpendCondition.opens site.now) site.now.height (block_of block.now).transactions (V.CoinsView.coins state.old.view) ≡ Err f) × (V.CoinsView.coins state.new.view ≡ V.CoinsView.coins state.old.view) × (entries state.new.undo ≡ entries state.old.undo)) }
     ensures kept { OnOk result ((back (V.CoinsView.most state.old.view) (entries state.new.undo) (V.CoinsView.coins state.new.view) true ≡ Some (record { previous = (block_of block.now).previous; below = entries state.old.undo; coins = V.CoinsView.coins state.old.view; clean = true })) × (length (entries state.new.undo) ≡ needsOf (block_of block.now) + length (entries state.old.undo))) }
 {
     let previous = *block.previous();
     // The room for the mark was tested.
     let _ = state.undo.push(Record::Mark(previous));
-    let applied = apply_block(&mut state.view, condition, &mut state.undo, block, site);
+    let applied = apply_block(state, site, block);
     if applied.is_err() {
-        let _ = unwind(&mut state.view, &mut state.undo);
+        let _ = state.unwind();
     }
     applied
 }

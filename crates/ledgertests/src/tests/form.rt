@@ -61,7 +61,7 @@ fn short_buffers(rt: HostRuntime) -> Result<(), Fail> {
     for size in &SIZES {
         writes_or_refuses(rt.alloc(), size.0, size.1)?;
     }
-    check_said(ShortBuffer.refusal(), 9, Layer::Form, 0)?;
+    check_said(ShortBuffer.into(), 9, Layer::Form, 0)?;
     check_said(short_buffer(), 9, Layer::Form, 0)
 }
 
@@ -112,7 +112,7 @@ fn above_the_limit(rt: HostRuntime) -> Result<(), Fail> {
     let zeros = vec![in heap; 0u8; 65_537]?;
     match FileReader::new(zeros.as_slice()) {
         Ok(_) => Err(Fail::new("read")),
-        Err(fault) => check_said(fault.refusal(), 5, Layer::File, 0),
+        Err(fault) => check_said(fault.into(), 5, Layer::File, 0),
     }
 }
 
@@ -121,7 +121,7 @@ fn peeked(reader: &mut FileReader<'_>) -> (u8, u64, u64) {
     match reader.peek() {
         Ok(ids) => (0, u64::from(ids.0[31]), u64::from(ids.1[31])),
         Err(fault) => {
-            let refusal = fault.refusal();
+            let refusal = Refusal::from(fault);
             (refusal.reason.number(), refusal.first, refusal.second)
         }
     }

@@ -1,44 +1,44 @@
-use Rattle.std.proofs.Common.{◌≡◌, ◌+◌, ◌<◌, ◌≤◌, ◌∷◌, length, ap, ◌∙◌, arith, rules}
+use Rattle.std.proofs.Common.{◌≡◌, ◌+◌, ◌∷◌, length, inl, sym, ◌∙◌, ap, arith, rules}
 use Rattle.coins.specs.declared.outpoint.Outpoint.{Outpoint}
 use Rattle.undo.specs.Entries.{entries}
 use Rattle.blockform.specs.Value.{spends}
-use Rattle.blockform.specs.Readers.{items_of}
+use Rattle.blockform.specs.Readers.{items_of, items_good, piece_of}
 use Rattle.blockform.proofs.Few.{items_few}
 use Rattle.connecting.specs.Parts.{inputs_in}
-use Rattle.transacting.proofs.Turns.{input_refused, input_spent}
+use Rattle.connecting.proofs.Conserved.{placed_ok}
+use Rattle.unwinding.proofs.Undone.{taken_twice}
+use Rattle.transacting.proofs.Turns.{input_spent}
 use Rattle.transacting.proofs.spend_inputs.Goals as goal
 
-pub loop-id-init : goal.loop-id-init
-loop-id-init g c = let few = items_few c.args.inputs c.requires.good in search rules
+pub loop-item-init-derived : goal.loop-item-init-derived
+loop-item-init-derived g c =
+    let all = c.into_iter-item-iterator.result in
+    let few = items_few all.iter (items_good _) in
+    let none = ap (λ x. x.count) c.into_iter-item-iterator.ensures.into_iter_gives in
+    ((tt, tt, inl (omega (arith, c.enumerate-item-items.ensures.count))), tt)
 
-pub loop-id-preserved : goal.loop-id-preserved
-loop-id-preserved g c =
-    let v = g.V.CoinsView in
-    let a = c.args in
-    let l = c.loop-id in
-    let at : Outpoint = record { id = c.in-Some-Input.id.now; index = c.in-Some-Input.index } in
-    let hands : items_of l.inputs ≡ spends (record { outpoint = at; witness = c.in-Some-Input.witness.now }) ∷ items_of c.next.new.self = let h = c.in-Some-Input.ensures.hands in search rules in
-    let few : length (v.coins l.view) ≤ v.most a.view.now = omega (arith, v.few l.view l.invariant.0, l.invariant.1) in
-    let one : length (inputs_in (items_of l.inputs)) ≡ length (inputs_in (items_of c.next.new.self)) + 1 = omega (arith, ap (λ x. length (inputs_in x)) hands) in
-    let less : length (entries l.chain) < 512 = omega (arith, l.invariant.5, c.requires.room, one) in
-    let t =
-    input_spent (g.C.SpendCondition.opens a.condition.now) a.site.maturity a.site.height l.item at c.in-Some-Input.witness.now (items_of l.inputs) (items_of c.next.new.self) (v.coins l.view) (v.coins c.spend.new.view) c.spend.result c.at_item.result (v.most a.view.now) l.paid c.in_ok-coin.coin (entries l.chain) (entries c.push.new.self) hands c.spend.ensures.value c.spend.ensures.map c.at_item.ensures c.in_ok-coin.was c.push.ensures.after less (v.sorted l.view l.invariant.0) few in (
-      c.spend.ensures.well,
-      c.spend.ensures.fixed ∙ l.invariant.1,
-      c.next.ensures.good,
-      omega (arith, l.invariant.3, t.4),
-      omega (arith, l.invariant.4, c.in_ok-coin.coin.money),
-      omega (arith, l.invariant.5, t.2, one),
-      l.invariant.6 ∙ t.0,
-      t.1 ∙ l.invariant.7,
-    )
+pub loop-item-init : goal.loop-item-init
+loop-item-init g c = let few = items_few c.args.inputs (items_good _) in search rules
 
-pub returns-in_err-coin : goal.returns-in_err-coin
-returns-in_err-coin g c =
+pub loop-item-preserved : goal.loop-item-preserved
+loop-item-preserved g c =
     let v = g.V.CoinsView in
-    let a = c.args in
-    let l = c.loop-id in
-    let at : Outpoint = record { id = c.in-Some-Input.id.now; index = c.in-Some-Input.index } in
-    let hands : items_of l.inputs ≡ spends (record { outpoint = at; witness = c.in-Some-Input.witness.now }) ∷ items_of c.next.new.self = let h = c.in-Some-Input.ensures.hands in search rules in
-    let t = input_refused (g.C.SpendCondition.opens a.condition.now) a.site.maturity a.site.height l.item at c.in-Some-Input.witness.now (items_of l.inputs) (items_of c.next.new.self) (v.coins l.view) (v.coins c.spend.new.view) c.spend.result c.at_item.result l.paid c.in_err-coin.field-0.0 hands c.spend.ensures.value c.spend.ensures.map c.at_item.ensures c.in_err-coin.was in
-    search rules
+    let k = c.args.site.now in
+    let l = c.loop-item in
+    let s = c.in-Some.ensures.steps in
+    let at : Outpoint = record { id = c.in-Input.id.now; index = c.in-Input.index } in
+    let coin = c.in_ok-coin.coin in
+    let ps = items_of l.item-iterator.iter in
+    let qs = items_of c.next.new.self.iter in
+    let hands : items_of l.item-iterator.iter ≡ spends (record { outpoint = at; witness = c.in-Input.witness.now }) ∷ items_of c.next.new.self.iter = s.0.0 ∙ ap (λ i. piece_of i ∷ qs) c.in-Input.is in
+    let is = placed_ok c.spend.result c.map_err.result _ coin c.map_err.ensures.cases c.in_ok-coin.was in
+    let one : length (inputs_in ps) ≡ length (inputs_in qs) + 1 = omega (arith, ap (λ x. length (inputs_in x)) hands) in
+    let long : length (entries c.spend.new.state.undo) ≡ length (entries l.state.undo) + 1 = rw is at c.spend.ensures.long in
+    let value = input_spent (g.C.SpendCondition.opens k.condition.now) k.maturity k.height l.item-iterator.count at c.in-Input.witness.now ps qs (v.coins l.state.view) l.paid hands coin (v.coins c.spend.new.state.view) (sym is ∙ c.spend.ensures.value) (rw is at c.spend.ensures.map) in
+    rw s.2 (record {
+      taken = taken_twice v c.args.state.now l.state c.spend.new.state l.invariant.taken c.spend.ensures.taken;
+      few = omega (arith, l.invariant.few, ap length hands);
+      worth = omega (arith, l.invariant.worth, coin.money);
+      long = omega (arith, l.invariant.long, long, one);
+      value = l.invariant.value ∙ value;
+    })

@@ -3,30 +3,18 @@ use Rattle.blockbytes.specs.Form.{then, times, output}
 use Rattle.blockbytes.proofs.Steps.{next, count_ok, outputs_yes}
 use Rattle.blockbytes.proofs.form.outputs.Goals as goal
 
-pub returns-in_err-at : goal.returns-in_err-at
-returns-in_err-at c =
-    let lt : c.loop-i._i < c.in_ok-n.n = omega arith in
-    let e = next (output c.args.b.now) c.in_ok-n.n c.loop-i._i c.loop-i.at lt in
-    search rules
-
-pub loop-i-preserved : goal.loop-i-preserved
-loop-i-preserved c =
-    let lt : c.loop-i._i < c.in_ok-n.n = omega arith in
-    let e = next (output c.args.b.now) c.in_ok-n.n c.loop-i._i c.loop-i.at lt in
-    search rules
-
-pub overflow_sub-b : goal.overflow_sub-b
-overflow_sub-b c =
+pub overflow_add-end : goal.overflow_add-end
+overflow_add-end c =
     let k = count_ok 64 c.args.b.now c.args.at c.in_ok-n.n c.in_ok-n.at (lit< tt) (sym c.in_ok-n.ensures) in
-    omega (arith, k.place, k.inside)
+    omega (arith, k.place, k.inside, k.small)
 
-pub overflow_mul-n : goal.overflow_mul-n
-overflow_mul-n c =
+pub overflow_mul-end : goal.overflow_mul-end
+overflow_mul-end c =
     let k = count_ok 64 c.args.b.now c.args.at c.in_ok-n.n c.in_ok-n.at (lit< tt) (sym c.in_ok-n.ensures) in
     omega (arith, k.small)
 
-pub returns-then-b-at : goal.returns-then-b-at
-returns-then-b-at c =
+pub returns-then-end-b : goal.returns-then-end-b
+returns-then-end-b c =
     let b = c.args.b.now in
     let k = count_ok 64 b c.args.at c.in_ok-n.n c.in_ok-n.at (lit< tt) (sym c.in_ok-n.ensures) in
     sym (ap (λ r. then r (λ n. times n.0 (output b) n.1)) (sym c.in_ok-n.ensures) ∙ outputs_yes b c.in_ok-n.n c.in_ok-n.at (omega (arith, k.place, k.inside)))

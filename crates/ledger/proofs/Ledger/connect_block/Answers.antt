@@ -48,7 +48,6 @@ apply-requires g c =
     let pass = then_passed (checks q.tip.id q.tip.height q.terms.last b) (needs b) _ (sym c.in_ok-needed.was ∙ c.check_block.ensures.is) in
     let say = checks_say q.tip.id q.tip.height q.terms.last b pass.0 in
     record {
-      good = c.in_ok-block.ensures.good;
       money = checked_moneyed b.transactions tt say.1;
       room = omega (arith, pass.1, c.free.ensures, c.if-needed-free.false, c.in_ok-needed.ensures.few);
     }
