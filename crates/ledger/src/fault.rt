@@ -35,7 +35,7 @@ impl From<LedgerFault> for Refusal {
             LedgerFault::NotEmpty => Refusal::from(Reason::NotEmpty),
             LedgerFault::Started => Refusal::from(Reason::Started),
             LedgerFault::NotStarted => Refusal::from(Reason::NotStarted),
-            LedgerFault::Block(f) => f.into(),
+            LedgerFault::Block(f) => Refusal::from(f),
         }
     }
 }

@@ -28,10 +28,7 @@ fn call_agrees<V: CoinsView, C: SpendCondition>(
     number: usize,
     call: Call,
     answer: Answer,
-) -> Result<(), Fail>
-    requires { V.CoinsView.ok ledger.old.view }
-    ensures { V.CoinsView.ok ledger.new.view }
-{
+) -> Result<(), Fail> {
     let before = state_of(heap, ledger)?;
     let found = perform(ledger, blocks, call);
     check(
@@ -53,11 +50,8 @@ fn agrees<V: CoinsView, C: SpendCondition>(
     ledger: &mut Ledger<V, C>,
     blocks: &[Vec<u8>],
     list: &[(Call, Answer)],
-) -> Result<(), Fail>
-    requires { V.CoinsView.ok ledger.old.view }
-    ensures { V.CoinsView.ok ledger.new.view }
-{
-    for (number, (call, answer)) in list.iter().enumerate() {
+) -> Result<(), Fail> {
+    for (number, (call, answer)) in (1usize..).zip(list) {
         call_agrees(heap, ledger, blocks, number, *call, *answer)?;
     }
     Ok(())

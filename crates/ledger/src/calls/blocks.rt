@@ -77,9 +77,7 @@ impl<V: CoinsView, C: SpendCondition> Ledger<V, C> {
         if chain.kept == 0 {
             return Err(LedgerFault::Nothing);
         }
-        let Some(unwound) = self.state.unwind() else {
-            return Err(LedgerFault::Nothing);
-        };
+        let unwound = self.state.unwind().ok_or(LedgerFault::Nothing)?;
         let id = unwound.previous;
         let height = chain.tip.height;
         self.active = Some(ActiveChain {
