@@ -1,5 +1,5 @@
 -- The lines of a run, one by one. Assumes nothing.
-use Rattle.std.proofs.Common.{◌≡◌, ℕ, ◌+◌, ◌-◌, ◌<◌, ◌≤◌, false, cond, List, [], ◌∷◌, ◌++◌, length, Ok, Result, Option, sym, refl, ap, ◌∙◌, subst, append_assoc, append-nil, arith, le-ltb, lt-ltb}
+use Rattle.std.proofs.Common.{◌≡◌, ℕ, ◌+◌, ◌-◌, ◌<◌, ◌≤◌, cond, List, [], ◌∷◌, ◌++◌, length, Ok, Option, sym, refl, ap, ◌∙◌, subst, append_assoc, append-nil, arith, le-ltb, lt-ltb}
 use Rattle.blockform.specs.File.{record_at}
 use Rattle.coinsview.specs.declared.view.CoinsView.{Ghosts as ViewGhosts}
 use Rattle.views.specs.declared.condition.SpendCondition.{Ghosts as ConditionGhosts}
@@ -7,15 +7,11 @@ use Rattle.ledger.specs.declared.Ledger.{Ledger}
 use Rattle.ledger.specs.declared.runs.Call.{Call}
 use Rattle.ledger.specs.declared.runs.Call.TheVariants as call
 use Rattle.ledger.specs.declared.runs.Answer.{Answer}
-use Rattle.ledger.specs.declared.runs.Answer.TheVariants as answer
-use Rattle.ledger.specs.declared.Connected.{Connected}
-use Rattle.ledger.specs.declared.fault.LedgerFault.{LedgerFault}
 use Rattle.ledger.specs.PageLaws.{PageLaws}
-use Rattle.ledger.specs.Book.{connected, connect_answer}
-use Rattle.ledger.specs.Pages.{Page, At, book_by, from_book, page_after, answer_on, pages_after}
-use Rattle.ledger.specs.Laws.{is_flush}
+use Rattle.ledger.specs.Book.{connect_answer}
+use Rattle.ledger.specs.Pages.{Page, At, from_book, page_after, pages_after}
 use Rattle.ledger.specs.Runs.{part}
-use Rattle.ledger.proofs.PageRunning.{laws_none, laws_more}
+use Rattle.ledger.proofs.PageRunning.{laws_none}
 use Rattle.printout.specs.declared.Line.{Line}
 use Rattle.printout.specs.Texts.{line_text}
 use Rattle.script.specs.declared.command.Command.{Command}

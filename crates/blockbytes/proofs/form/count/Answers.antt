@@ -1,4 +1,4 @@
-use Rattle.std.proofs.Common.{sym, refl, ap, ◌∙◌, arith, rules}
+use Rattle.std.proofs.Common.{sym, ap, ◌∙◌, arith, rules}
 use Rattle.compact.specs.Compact.{read_size}
 use Rattle.blockbytes.specs.Form.{count}
 use Rattle.blockbytes.proofs.Steps.{count_none, count_yes, count_over}

@@ -1,6 +1,6 @@
-use Rattle.std.proofs.Common.{◌<◌, sym, ap, ◌∙◌, arith, lit<, rules}
+use Rattle.std.proofs.Common.{sym, ap, ◌∙◌, arith, lit<}
 use Rattle.blockbytes.specs.Form.{then, times, output}
-use Rattle.blockbytes.proofs.Steps.{next, count_ok, outputs_yes}
+use Rattle.blockbytes.proofs.Steps.{count_ok, outputs_yes}
 use Rattle.blockbytes.proofs.form.outputs.Goals as goal
 
 pub overflow_add-end : goal.overflow_add-end
