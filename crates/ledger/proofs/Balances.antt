@@ -66,11 +66,6 @@ none_past [] i h = omega arith
 none_past (q ∷ m) zero h = absurd (let z : ◌≡◌ {A = ℕ} 0 1 = cc in omega arith)
 none_past (q ∷ m) (suc i) h = let r = none_past m i h in omega arith
 
-pub no_more : {X : Type 0} (m : Coins) (i : ℕ) → i < length m → None ≡ slice_get m i → X
-no_more [] i l h = absurd (omega arith)
-no_more (q ∷ m) zero l h = absurd (let z : ◌≡◌ {A = ℕ} 0 1 = cc in omega arith)
-no_more (q ∷ m) (suc i) l h = no_more m i (omega arith) h
-
 pub held_bound : (l : Lock) (c : Coin) (a : Balance) (i : ℕ) → a.coins ≤ i → a.value ≤ 2100000000000000 * i → ((with_held l c a).coins ≤ i + 1) × ((with_held l c a).value ≤ 2100000000000000 * (i + 1))
 held_bound l c a i h k = go (same_lock c.lock l)
   where

@@ -38,7 +38,7 @@ pub enum Call {
     Balance(Lock),
 }
 
-// What a call answered.
+// What a call answered: a variant for each of `Call`, so that one list holds the answers of any calls.
 #[derive(Clone, Copy)]
 pub enum Answer {
     Start(Result<(), LedgerFault>),

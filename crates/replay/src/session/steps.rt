@@ -27,6 +27,7 @@ impl<'a> Session<'a> {
     }
 
     // Performs the next line of the script and answers its line of the printout. None at the script's end.
+    // No iterator: the ledger stays with the caller, who may read it between two lines.
     pub fn next_line<V: CoinsView, C: SpendCondition>(
         &mut self,
         ledger: &mut Ledger<V, C>,
