@@ -27,6 +27,7 @@ fn count(b: &[u8], at: usize, limit: u8) -> Result<(usize, usize), FormFault>
     if n <= limit {
         return Ok((n as usize, at + 1));
     }
+    // By `From` and `?` the place could not be added.
     match read_size(b.split_at(at).1) {
         Err(SizeFault::Cut) => Err(FormFault::Cut { at }),
         Err(SizeFault::LongForm) => Err(FormFault::LongForm { at }),

@@ -34,7 +34,8 @@ enum Kind {
     Output,
 }
 
-// The inputs, or the outputs, of a transaction that are still to come.
+// The inputs, or the outputs, of a transaction that are still to come. The place counts from the front of the block, as
+// offsets do, so it stands beside the whole of it.
 #[derive(Clone, Copy)]
 pub struct Items<'a> {
     block: &'a [u8],

@@ -149,6 +149,7 @@ impl<V: CoinsView> Cache<V> {
     }
 }
 
+// `cache_view` has the ghost members all together; an `impl` gives each by its name.
 impl<V: CoinsView> CoinsView for Cache<V> {
     ghost ok = { (cache_view V.CoinsView).ok };
 

@@ -10,7 +10,7 @@ ghost use Rattle.connecting.specs.Rules.{then, is_coinbase as coinbaseBy, money,
 use blockform::reader::{Block, Item, Items, Transaction, Transactions};
 use coins::coin::MAX_VALUE;
 use coins::outpoint::Outpoint;
-use connecting::fault::{BlockFault, TransactionFault, at_transaction};
+use connecting::fault::{BlockFault, TransactionFault};
 
 // An input that names the null outpoint.
 fn is_null(item: &Item<'_>) -> bool
@@ -118,7 +118,10 @@ fn check_others(others: Transactions<'_>) -> Result<usize, BlockFault>
 {
     let mut needed = 0;
     for (before, tx) in others.enumerate() {
-        needed += at_transaction(check_spending(&tx), before + 1)?;
+        needed += check_spending(&tx).map_err(|fault| BlockFault::Transaction {
+            transaction: before + 1,
+            fault,
+        })?;
     }
     Ok(needed)
 }
@@ -134,12 +137,15 @@ fn check_transactions(mut others: Transactions<'_>) -> Result<usize, BlockFault>
     if !is_coinbase(first.inputs) {
         return Err(BlockFault::NoCoinbase);
     }
-    let made = at_transaction(check_coinbase(&first), 0)?;
+    let made = check_coinbase(&first).map_err(|fault| BlockFault::Transaction {
+        transaction: 0,
+        fault,
+    })?;
     let needed = check_others(others)?;
     Ok(made + needed)
 }
 
-// A function of its own: all four ways out of `check_block` rest on its one equation.
+// A function of its own: written in place, the four ways out of `check_block` were tried, and got no proof.
 fn is_same(a: &[u8; 32], b: &[u8; 32]) -> bool
     ensures { result ≡ same_id a.now b.now }
 {

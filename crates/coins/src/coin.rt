@@ -4,7 +4,7 @@ ghost use Rattle.std.specs.Prelude.{◌≤◌};
 // The greatest value of a coin, and the greatest sum of a transaction's outputs.
 pub const MAX_VALUE: u64 = 2_100_000_000_000_000;
 
-// What has to be met to spend an output: a kind and an argument.
+// What has to be met to spend an output: a kind, which may be any byte, and an argument.
 #[derive(Clone, Copy, PartialEq, Eq, Debug)]
 pub struct Lock {
     pub kind: u8,

@@ -11,7 +11,7 @@ use crate::fault::ViewFault;
 use crate::view::CoinsView;
 use coins::coin::{Coin, Lock};
 use coins::outpoint::Outpoint;
-use maps::search::find;
+use maps::search::{above, find};
 
 // The most cells that a table uses.
 pub const MOST_CELLS: usize = 4096;
@@ -72,17 +72,6 @@ impl FlatTable<'_> {
     {
         find(self.coins(), k)
     }
-
-    // The place of the first outpoint above k.
-    fn above(&self, k: &Outpoint) -> usize
-        requires { table_view.ok self.now }
-        ensures { after outpoints k.now (coins_of self.now) ≡ slice_get (coins_of self.now) result }
-    {
-        match self.find(k) {
-            Ok(i) => i + 1,
-            Err(i) => i,
-        }
-    }
 }
 
 // `table_view` has the ghost members all together; an `impl` gives each by its name.
@@ -117,10 +106,7 @@ impl CoinsView for FlatTable<'_> {
     }
 
     fn next(&mut self, from: Option<&Outpoint>) -> Option<(Outpoint, Coin)> {
-        let i = match from {
-            None => 0,
-            Some(k) => self.above(k),
-        };
+        let i = above(self.coins(), from);
         self.coins().get(i).copied()
     }
 

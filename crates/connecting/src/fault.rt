@@ -1,8 +1,8 @@
 // Why a block is refused, layer by layer. A fault keeps its number, place and layer on its way up.
-ghost use Rattle.std.specs.Prelude.{◌≡◌, Ok, Err, MatchResult};
+ghost use Rattle.std.specs.Prelude.{◌≡◌};
 ghost use Rattle.connecting.specs.Refusals.{input_reason, transaction_refusal, block_refusal};
 ghost use Rattle.connecting.specs.declared.fault.InputFault.TheVariants.{View as OfView};
-ghost use Rattle.connecting.specs.declared.fault.BlockFault.TheVariants.{Form as OfForm, Transaction as AtTransaction};
+ghost use Rattle.connecting.specs.declared.fault.BlockFault.TheVariants.{Form as OfForm};
 
 use blockform::fault::FormFault;
 use coinsview::fault::ViewFault;
@@ -60,16 +60,6 @@ impl From<FormFault> for BlockFault {
     }
 }
 
-// A transaction's answer, with its place in the block.
-pub fn at_transaction<X>(
-    r: Result<X, TransactionFault>,
-    transaction: usize,
-) -> Result<X, BlockFault>
-    ensures { MatchResult r (λ x. result ≡ Ok x) (λ f. result ≡ Err (AtTransaction transaction f)) }
-{
-    r.map_err(|fault| BlockFault::Transaction { transaction, fault })
-}
-
 impl From<InputFault> for Reason {
     ghost from_gives = { λ f r. r ≡ input_reason f };
 
@@ -84,7 +74,7 @@ impl From<InputFault> for Reason {
 }
 
 impl TransactionFault {
-    // The refusal, for the transaction at place `t` of its block.
+    // The refusal, for the transaction at place `t` of its block: no conversion, since the place has to be given.
     pub fn refusal(self, t: usize) -> Refusal
         ensures { result ≡ transaction_refusal t self }
     {

@@ -33,16 +33,6 @@ set_at k e es i z f r =
     let key : z.0 ≡ k = ap (λ x. x.0) r ∙ ap (λ j. (get_or es j z).0) f.0 ∙ key_place outpoints k t.0 es z t.1 in
     ap (λ q. set es i (q, e)) key ∙ ap (λ j. set es j (k, e)) f.0 ∙ set_place outpoints k e t.0 es t.1
 
-pub after_found : (k : Outpoint) (es : Entries) (i : ℕ) → Sorted outpoints es → Found outpoints k es (Ok i) → after outpoints k es ≡ slice_get es (i + 1)
-after_found k es i s f = go es refl f.1 f.2
-  where
-    go : (xs : Entries) → xs ≡ es → i < length es → ((d : Outpoint × Entry) → look outpoints k es ≡ Some (get_or es i d).1) → after outpoints k es ≡ slice_get es (i + 1)
-    go [] e l h = absurd (omega (arith, ap length e))
-    go (x ∷ xs) e l h = after_present outpoints k _ es s (h x) ∙ ap (λ j. slice_get es (suc j)) (sym f.0) ∙ ap (slice_get es) (sym (add-one i))
-
-pub after_missing : (k : Outpoint) (es : Entries) (i : ℕ) → Found outpoints k es (Err i) → after outpoints k es ≡ slice_get es i
-after_missing k es i f = after_absent outpoints k es f.2 ∙ ap (slice_get es) (sym f.0)
-
 -- what one write leaves is in order
 pub sorted_with : (k : Outpoint) (e : Entry) (es new : Entries) → new ≡ with_entry k e es → Sorted outpoints es → Sorted outpoints new
 sorted_with k e es new h s = subst (Sorted outpoints) (sym h) (sorted_insert outpoints k e es s)

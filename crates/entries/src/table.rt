@@ -13,7 +13,7 @@ ghost use Rattle.entries.specs.Lent.{lends_slot};
 use arrayvec::ArrayVec;
 use coins::coin::Coin;
 use coins::outpoint::Outpoint;
-use maps::search::find;
+use maps::search::{above, find};
 
 // The most entries of a cache.
 pub const MOST_ENTRIES: usize = 64;
@@ -145,13 +145,7 @@ impl EntryTable {
         ensures within { result ≤ length (entries_in self.now) }
         ensures first { next_of outpoints (option_map (λ x. x.now) from.entry) (entries_in self.now) ≡ slice_get (entries_in self.now) result }
     {
-        match from {
-            None => 0,
-            Some(k) => match self.find(k) {
-                Ok(i) => i + 1,
-                Err(i) => i,
-            },
-        }
+        above(self.as_slice(), from)
     }
 
     // One entry more, at the place where a search for its outpoint ended.

@@ -30,12 +30,12 @@ impl From<LedgerFault> for Refusal {
 
     fn from(f: LedgerFault) -> Refusal {
         match f {
-            LedgerFault::Nothing => Refusal::from(Reason::Nothing),
-            LedgerFault::Parameter => Refusal::from(Reason::Parameter),
-            LedgerFault::NotEmpty => Refusal::from(Reason::NotEmpty),
-            LedgerFault::Started => Refusal::from(Reason::Started),
-            LedgerFault::NotStarted => Refusal::from(Reason::NotStarted),
-            LedgerFault::Block(f) => Refusal::from(f),
+            LedgerFault::Nothing => Reason::Nothing.into(),
+            LedgerFault::Parameter => Reason::Parameter.into(),
+            LedgerFault::NotEmpty => Reason::NotEmpty.into(),
+            LedgerFault::Started => Reason::Started.into(),
+            LedgerFault::NotStarted => Reason::NotStarted.into(),
+            LedgerFault::Block(f) => f.into(),
         }
     }
 }

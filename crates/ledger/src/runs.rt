@@ -18,7 +18,8 @@ use coins::outpoint::Outpoint;
 use coinsview::view::CoinsView;
 use views::condition::SpendCondition;
 
-// One call, with its arguments. The bytes of a block are a part of the bytes that a list of calls is given with.
+// One call, with its arguments. The bytes of a block are a part of the bytes that a list of calls is given with: by two
+// places, since a range cannot be copied and a call can.
 #[derive(Clone, Copy)]
 pub enum Call {
     Start {
@@ -95,7 +96,8 @@ impl<V: CoinsView, C: SpendCondition> Ledger<V, C> {
         ensures laws { (k : Book) → Stands V.CoinsView C.SpendCondition k self.old → Laws V.CoinsView C.SpendCondition k bytes.now (take result calls.now) (take result answers.new) self.new }
         ensures page_laws { (p : Page) → At V.CoinsView C.SpendCondition p self.old → PageLaws V.CoinsView C.SpendCondition p bytes.now (take result calls.now) (take result answers.new) self.new }
     {
-        // By index: of the elements that an adapter of `iter_mut` wrote, no proof knows anything.
+        // Two lists of the caller's, in the caller's memory. By index: of the elements that an adapter of `iter_mut` wrote, no
+        // proof knows anything.
         let count = calls.len().min(answers.len());
         for i in 0..count {
             answers[i] = self.perform(bytes, calls[i]);

@@ -20,7 +20,7 @@ fn check<D: Display + Drop>(holds: bool, what: D) -> Result<(), Fail> {
     Err(Fail::new(what))
 }
 
-// Makes one call, of the given line of a list; the first is line 0.
+// Makes one call, of the given line of a list; the first is line 1.
 fn call_agrees<V: CoinsView, C: SpendCondition>(
     heap: Global,
     ledger: &mut Ledger<V, C>,

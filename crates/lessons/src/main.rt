@@ -1,12 +1,9 @@
 // Replays every lesson over a flat table, and prints each printout under the lesson's name.
 #![tactic(auto)]
 
-use replay::flat::printout_over_flat_table;
+use replay::flat::{MOST_READ, printout_over_flat_table};
 use std::fs::File;
 use std::io::Read;
-
-// The most bytes of a block file that are read: one more than it may have.
-const MOST_READ: u64 = 65_537;
 
 // The folders of the lessons, in the order of their names.
 const LESSONS: [&str; 8] = [

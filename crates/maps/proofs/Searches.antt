@@ -1,10 +1,11 @@
 -- What a binary search for a key answers among pairs in the order of their keys.
-use Rattle.std.proofs.Common.{◌≡◌, ℕ, ◌<◌, ◌≤◌, List, [], ◌∷◌, length, get_or, Some, None, Ok, Err, Result, Ordering, Less, Equal, Greater, sym, ap, ◌∙◌, subst, ⊎_elim, arith}
+use Rattle.std.proofs.Common.{◌≡◌, ℕ, suc, ◌+◌, ◌<◌, ◌≤◌, List, [], ◌∷◌, length, get_or, Some, None, Ok, Err, Result, Ordering, Less, Equal, Greater, sym, refl, ap, ◌∙◌, subst, ⊎_elim, add-one, arith}
 use Rattle.std.specs.Ordering.{MatchOrdering, ordering_index, ordering_reverse}
+use Rattle.std.specs.List.{slice_get}
 use Rattle.std.specs.List.Sorted.{IsBinarySearchResult, IsNonDecreasingBy, IsSearchInRange}
 use Rattle.std.proofs.lemmas.Bool.{cases_lt}
-use Rattle.maps.specs.Maps.{Order, pick, place, look, Sorted}
-use Rattle.maps.proofs.Laws.{place_at, place_within, look_place, look_past}
+use Rattle.maps.specs.Maps.{Order, pick, place, look, after, Sorted}
+use Rattle.maps.proofs.Laws.{place_at, place_within, look_place, look_past, after_present, after_absent}
 use Rattle.maps.specs.Search.{Found}
 
 rank_up : (a b : Ordering) (n i j : ℕ) → i < j → MatchOrdering a (n ≤ i) (n ≡ i) (i < n) → MatchOrdering b (n ≤ j) (n ≡ j) (j < n) → ordering_index (ordering_reverse a) ≤ ordering_index (ordering_reverse b)
@@ -50,3 +51,15 @@ module _ {K V : Type 0} (o : Order K) (k : K) (m : List (K × V)) (s : Sorted o 
       let low : i ≤ place o k m = ⊎_elim (λ b. let d = first m (omega arith) in absurd (let z = compared (place o k m) d Less (omega arith) (split.0 (place o k m) d (omega arith) b) in omega arith)) (λ b. b) (cases_lt (place o k m) i) in
       let at : place o k m ≡ i = omega arith in
       (sym at, l, ⊎_elim (λ b. here i Greater at b (λ d. split.1 i d (omega arith) b) (first m (omega arith))) (λ b. look_past o k m (omega arith)) (cases_lt i (length m)))
+
+module _ {K V : Type 0} (o : Order K) (k : K) (m : List (K × V)) where
+  -- the first pair above a key that was found, and above one that was not
+  pub above_found : (i : ℕ) → Sorted o m → Found o k m (Ok i) → after o k m ≡ slice_get m (i + 1)
+  above_found i s f = go m refl f.1 f.2
+    where
+      go : (xs : List (K × V)) → xs ≡ m → i < length m → ((d : K × V) → look o k m ≡ Some (get_or m i d).1) → after o k m ≡ slice_get m (i + 1)
+      go [] e l h = absurd (omega (arith, ap length e))
+      go (x ∷ xs) e l h = after_present o k _ m s (h x) ∙ ap (λ j. slice_get m (suc j)) (sym f.0) ∙ ap (slice_get m) (sym (add-one i))
+
+  pub above_missing : (i : ℕ) → Found o k m (Err i) → after o k m ≡ slice_get m i
+  above_missing i f = after_absent o k m f.2 ∙ ap (slice_get m) (sym f.0)

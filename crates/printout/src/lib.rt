@@ -8,7 +8,7 @@ use refusal::Refusal;
 use std::alloc::AllocError;
 use std::fmt;
 
-// What a command of a script answers.
+// What a command of a script answers. A refusal is a variant like the others, since each is printed as a line.
 #[derive(Clone, Copy, PartialEq, Eq, Debug)]
 pub enum Line {
     Start,

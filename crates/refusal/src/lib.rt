@@ -54,7 +54,8 @@ pub enum Reason {
     NotStarted,
 }
 
-// A reason with its place: an offset and 0, a line and 0, a transaction and its input or output, or 0 and 0.
+// A reason with its place: an offset and 0, a line and 0, a transaction and its input or output, or 0 and 0. Two numbers,
+// since two are printed whatever the reason.
 #[derive(Clone, Copy, PartialEq, Eq, Debug)]
 pub struct Refusal {
     pub reason: Reason,
@@ -83,6 +84,7 @@ impl Reason {
         }
     }
 
+    // The one place where the numbers stand. Two reasons have one number, so they cannot be the variants' own.
     pub fn number(self) -> u8
         ensures { result ≡ number_of self }
     {

@@ -27,7 +27,7 @@ fn refused(fault: LedgerFault) -> Line
     Line::Refused(Refusal::from(fault))
 }
 
-// Performs a command. A '+' connects the block of the next record; the file moves past it, whatever the ledger answers.
+// Performs a command, by `Ledger::perform`, whose contract carries the laws over any list of calls. A '+' connects the block of the next record; the file moves past it, whatever the ledger answers.
 fn perform<V: CoinsView, C: SpendCondition>(
     ledger: &mut Ledger<V, C>,
     file: &mut FileReader<'_>,

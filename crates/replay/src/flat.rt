@@ -18,6 +18,9 @@ use views::condition::{Badge, Clock, Either};
 // The cells of the flat table.
 const CELLS: usize = 512;
 
+// The most bytes of a block file that are worth reading: one more than it may have.
+pub const MOST_READ: u64 = 65_537;
+
 // The printout of a ledger that is made for it: a cache over a flat table of 512 cells, opened by badge or clock.
 pub fn printout_over_flat_table<'a>(
     heap: Global,

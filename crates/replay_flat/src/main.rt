@@ -1,13 +1,10 @@
 // The replayer: blocks.dat and a script from standard input, and the printout that they give.
 #![tactic(auto)]
 
-use replay::flat::printout_over_flat_table;
+use replay::flat::{MOST_READ, printout_over_flat_table};
 use std::fs::File;
 use std::io::Read;
 use std::process::ExitCode;
-
-// The most bytes of blocks.dat that are read: one more than a block file may have.
-const MOST_READ: u64 = 65_537;
 
 // The block file, or none and a message on standard error.
 fn read_blocks(rt: &HostRuntime) -> anyhow::Result<Option<Vec<u8>>> {

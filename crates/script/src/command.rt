@@ -4,6 +4,7 @@ ghost use Rattle.std.specs.List.{prefix_len};
 ghost use Rattle.script.specs.Commands.{digit, numeral_of, operand_of, whole, start_of, balance_of, command_of};
 ghost use Rattle.script.specs.Forms.{ReadsEachForm};
 
+// What a line asks for. The script rests on nothing, so a start has its three numbers here and not the ledger's parameters.
 #[derive(Clone, Copy, PartialEq, Eq, Debug)]
 pub enum Command {
     Start {

@@ -86,7 +86,7 @@ pub fn outputs_worth(outputs: Items<'_>) -> u64
     requires { worthOf (outputs_in (items_of outputs)) ≤ 2100000000000000 }
     ensures { result ≡ worthOf (outputs_in (items_of outputs.entry)) }
 {
-    // `map_while` and `sum` were tried: a reader says what each call hands out, not its whole run, so the bound got no proof.
+    // `map_while` and `sum` were tried: that the sum fits, and what it is, got no proof.
     let mut sum = 0;
     for output in outputs {
         let Item::Output { value, .. } = output else {

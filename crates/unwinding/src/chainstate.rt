@@ -1,13 +1,12 @@
-// A view of coins, and the undo entries of what was done to it.
+// The coins of a view that is in order, and the undo entries of what was done to them.
 use coinsview::view::CoinsView;
 use undo::Undo;
 
 mod making;
 
-// The view is in order.
 #[derive(Drop)]
 pub struct Chainstate<V: CoinsView> {
     pub view: V,
     pub undo: Undo,
-    ghost well: { V.CoinsView.ok view } by { V.CoinsView.single view },
+    pub ghost well: { V.CoinsView.ok view } by { V.CoinsView.single view },
 }

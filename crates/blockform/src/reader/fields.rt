@@ -61,7 +61,7 @@ fn output(b: &[u8], at: usize) -> (Item<'_>, usize)
     )
 }
 
-// The input or output at `at`, and where it ends.
+// The input or output at `at`, and where it ends; one enum holds either.
 pub fn item(b: &[u8], at: usize, kind: Kind) -> (Item<'_>, usize)
     requires { is_ok (item_form kind b.now at) ≡ true }
     ensures piece { piece_of result.0 ≡ item_at kind b.now at }

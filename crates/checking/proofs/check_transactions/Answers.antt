@@ -1,4 +1,4 @@
-use Rattle.std.proofs.Common.{◌≡◌, ◌≤◌, length, IfOk, Ok, Err, sym, ap, ◌∙◌, subst, arith}
+use Rattle.std.proofs.Common.{◌≡◌, ◌≤◌, length, IfOk, Ok, Err, sym, ap, ◌∙◌, subst, arith, rules}
 use Rattle.std.proofs.lemmas.Result.{err_from_is_err_and}
 use Rattle.blockform.specs.Readers.{items_of, Hands}
 use Rattle.blockform.specs.Value.{TransactionValue}
@@ -28,7 +28,7 @@ returns-in_err-made c =
     let b = first_is _ h.0 _ h.1 c.is_coinbase.ensures in
     let p = err_from_is_err_and c.from_residual.result c.from_residual.ensures.1 in
     record {
-      is = p.1 ∙ ap Err p.2 ∙ sym (first_stop _ _ h.0 h.2 (sym b ∙ c.if-not-is_coinbase.false) _ _ (c.check_coinbase.ensures.is h.0 h.1) c.at_transaction.ensures _ c.in_err-made.was);
+      is = p.1 ∙ ap Err p.2 ∙ sym (first_stop _ _ h.0 h.2 (sym b ∙ c.if-not-is_coinbase.false) _ _ (c.check_coinbase.ensures.is h.0 h.1) (search rules) _ c.in_err-made.was);
       few = subst (λ r. IfOk r (λ n. n ≤ 8256)) (sym p.1) tt;
     }
 
@@ -38,7 +38,7 @@ returns-in_err-needed c =
     let b = first_is _ h.0 _ h.1 c.is_coinbase.ensures in
     let p = err_from_is_err_and c.from_residual-in_err-needed.result c.from_residual-in_err-needed.ensures.1 in
     record {
-      is = p.1 ∙ ap Err p.2 ∙ sym (rest_stop _ _ h.0 h.2 (sym b ∙ c.if-not-is_coinbase.false) _ _ (c.check_coinbase.ensures.is h.0 h.1) c.at_transaction.ensures _ _ _ c.in_ok-made.was c.check_others.ensures.is c.in_err-needed.was);
+      is = p.1 ∙ ap Err p.2 ∙ sym (rest_stop _ _ h.0 h.2 (sym b ∙ c.if-not-is_coinbase.false) _ _ (c.check_coinbase.ensures.is h.0 h.1) (search rules) _ _ _ c.in_ok-made.was c.check_others.ensures.is c.in_err-needed.was);
       few = subst (λ r. IfOk r (λ n. n ≤ 8256)) (sym p.1) tt;
     }
 
@@ -46,8 +46,8 @@ pub returns : goal.returns
 returns c =
     let h = c.in-Some.ensures.steps in
     let b = first_is _ h.0 _ h.1 c.is_coinbase.ensures in
-    let one = within 0 _ 64 _ _ c.check_coinbase.ensures.few c.at_transaction.ensures c.in_ok-made.was in
+    let one = within 0 _ 64 _ _ c.check_coinbase.ensures.few (search rules) c.in_ok-made.was in
     record {
-      is = sym (all_passed _ _ h.0 h.2 (sym b ∙ c.if-not-is_coinbase.false) _ _ (c.check_coinbase.ensures.is h.0 h.1) c.at_transaction.ensures _ _ _ c.in_ok-made.was c.check_others.ensures.is c.in_ok-needed.was);
+      is = sym (all_passed _ _ h.0 h.2 (sym b ∙ c.if-not-is_coinbase.false) _ _ (c.check_coinbase.ensures.is h.0 h.1) (search rules) _ _ _ c.in_ok-made.was c.check_others.ensures.is c.in_ok-needed.was);
       few = omega (arith, one, c.in_ok-needed.ensures.few);
     }

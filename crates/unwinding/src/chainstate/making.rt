@@ -1,4 +1,4 @@
-// A chainstate is made of a view.
+// Making a chainstate.
 ghost use Rattle.std.specs.Prelude.{◌≡◌, []};
 ghost use Rattle.undo.specs.Entries.{entries};
 
