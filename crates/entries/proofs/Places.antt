@@ -1,9 +1,9 @@
 -- Entries changed at their place.
-use Rattle.std.proofs.Common.{◌≡◌, ℕ, suc, ◌+◌, ◌<◌, [], ◌∷◌, length, get_or, set, Some, Ok, Err, Result, sym, refl, ap, ◌∙◌, subst, add-one, arith}
-use Rattle.std.specs.List.{slice_get, insert, remove}
+use Rattle.std.proofs.Common.{◌≡◌, ℕ, [], ◌∷◌, length, get_or, set, Some, Ok, Err, Result, sym, refl, ap, ◌∙◌, subst, arith}
+use Rattle.std.specs.List.{insert, remove}
 use Rattle.coins.specs.declared.outpoint.Outpoint.{Outpoint}
-use Rattle.maps.specs.Maps.{look, after, Sorted}
-use Rattle.maps.proofs.Laws.{insert_place, remove_place, sorted_insert, sorted_remove, after_present, after_absent}
+use Rattle.maps.specs.Maps.{Sorted}
+use Rattle.maps.proofs.Laws.{insert_place, remove_place, sorted_insert, sorted_remove}
 use Rattle.maps.proofs.Layered.{set_place, key_place}
 use Rattle.maps.specs.Keyed.{outpoints}
 use Rattle.entries.specs.declared.table.Entry.{Entry}
