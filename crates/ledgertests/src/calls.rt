@@ -3,38 +3,33 @@ use crate::block::id;
 use coins::coin::{Coin, Lock};
 use coins::outpoint::Outpoint;
 use coinsview::view::CoinsView;
-use ledger::fault::LedgerFault;
 use ledger::terms::Parameters;
 use ledger::{Balance, Connected, Disconnected, Ledger, Outcome};
 use refusal::{Reason, Refusal};
 use views::condition::SpendCondition;
 
-// Transactions go by the number of their identifier, blocks by their place in a list.
+// A place among the coins: a transaction by the number of its identifier, and an output of it.
+#[derive(Clone, Copy, PartialEq, Debug)]
+pub struct Place {
+    pub tx: u8,
+    pub index: u32,
+}
+
+// Blocks go by their place in a list.
 #[derive(Clone, Copy)]
 pub enum Call {
-    Start {
-        halving: u64,
-        maturity: u64,
-        last: u64,
-    },
+    Start(Parameters),
     Connect(usize),
     Disconnect,
     Settle(u64),
     Flush,
     Tip,
-    Look {
-        tx: u8,
-        index: u32,
-    },
-    First,
-    Next {
-        tx: u8,
-        index: u32,
-    },
+    Look(Place),
+    Next(Option<Place>),
     Balance(Lock),
 }
 
-// Identifiers by their last byte.
+// Identifiers by their last byte, a coin by its place and value.
 #[derive(Clone, Copy, PartialEq, Debug)]
 pub enum Answer {
     Done,
@@ -42,102 +37,102 @@ pub enum Answer {
     Disconnected(Disconnected),
     Kept(u64),
     Tip { id: u8, height: u32 },
-    Coin { tx: u8, index: u32, value: u64 },
-    NoCoin,
+    Coin(Option<(Place, u64)>),
     Balance(Balance),
-    Refused(Refusal),
 }
+
+pub type Answered = Result<Answer, Refusal>;
+
+pub const DONE: Answered = Ok(Answer::Done);
+
+pub const NO_COIN: Answered = Ok(Answer::Coin(None));
 
 // The calls and answers of a list, each on a line.
 pub fn start(halving: u64, maturity: u64, last: u64) -> Call {
-    Call::Start {
+    Call::Start(Parameters {
         halving,
         maturity,
         last,
-    }
+    })
 }
 
 pub fn look(tx: u8, index: u32) -> Call {
-    Call::Look { tx, index }
+    Call::Look(Place { tx, index })
 }
 
 pub fn next(tx: u8, index: u32) -> Call {
-    Call::Next { tx, index }
+    Call::Next(Some(Place { tx, index }))
 }
 
 pub fn balance(kind: u8, argument: u64) -> Call {
     Call::Balance(Lock { kind, argument })
 }
 
-pub fn connected(height: u32, made: u64, spent: u64, fees: u64, burned: u64) -> Answer {
-    Answer::Connected(Connected {
+pub fn connected(height: u32, made: u64, spent: u64, fees: u64, burned: u64) -> Answered {
+    Ok(Answer::Connected(Connected {
         height,
         made,
         spent,
         fees,
         burned,
-    })
+    }))
 }
 
 // Taken back, and it went clean.
-pub fn disconnected(height: u32) -> Answer {
-    Answer::Disconnected(Disconnected {
+pub fn disconnected(height: u32) -> Answered {
+    Ok(Answer::Disconnected(Disconnected {
         height,
         outcome: Outcome::Clean,
-    })
+    }))
 }
 
-pub fn tip(id: u8, height: u32) -> Answer {
-    Answer::Tip { id, height }
+pub fn kept(blocks: u64) -> Answered {
+    Ok(Answer::Kept(blocks))
 }
 
-pub fn coin(tx: u8, index: u32, value: u64) -> Answer {
-    Answer::Coin { tx, index, value }
+pub fn tip(id: u8, height: u32) -> Answered {
+    Ok(Answer::Tip { id, height })
 }
 
-pub fn worth(coins: u64, value: u64) -> Answer {
-    Answer::Balance(Balance { coins, value })
+pub fn coin(tx: u8, index: u32, value: u64) -> Answered {
+    Ok(Answer::Coin(Some((Place { tx, index }, value))))
 }
 
-pub fn refused(reason: Reason, first: u64, second: u64) -> Answer {
-    Answer::Refused(Refusal {
+pub fn worth(coins: u64, value: u64) -> Answered {
+    Ok(Answer::Balance(Balance { coins, value }))
+}
+
+pub fn refused<T>(reason: Reason, first: u64, second: u64) -> Result<T, Refusal> {
+    Err(Refusal {
         reason,
         first,
         second,
     })
 }
 
-fn outpoint(tx: u8, index: u32) -> Outpoint {
-    Outpoint { id: id(tx), index }
-}
-
-fn found(pair: Option<(Outpoint, Coin)>) -> Answer {
-    match pair {
-        Some((at, coin)) => Answer::Coin {
-            tx: at.id[31],
-            index: at.index,
-            value: coin.value,
-        },
-        None => Answer::NoCoin,
+fn outpoint(place: Place) -> Outpoint {
+    Outpoint {
+        id: id(place.tx),
+        index: place.index,
     }
 }
 
-fn try_call<V: CoinsView, C: SpendCondition>(
+fn found(at: Outpoint, coin: Coin) -> (Place, u64) {
+    let place = Place {
+        tx: at.id[31],
+        index: at.index,
+    };
+    (place, coin.value)
+}
+
+// The answer to a call.
+pub fn perform<V: CoinsView, C: SpendCondition>(
     ledger: &mut Ledger<V, C>,
     blocks: &[Vec<u8>],
     call: Call,
-) -> Result<Answer, LedgerFault> {
+) -> Answered {
     let answer = match call {
-        Call::Start {
-            halving,
-            maturity,
-            last,
-        } => {
-            let parameters = Parameters {
-                halving,
-                maturity,
-                last,
-            };
+        Call::Start(parameters) => {
             ledger.start(parameters, &id(0))?;
             Answer::Done
         }
@@ -159,34 +154,27 @@ fn try_call<V: CoinsView, C: SpendCondition>(
                 height: tip.height,
             }
         }
-        Call::Look { tx, index } => {
-            let at = outpoint(tx, index);
-            found(ledger.look(&at)?.map(|coin| (at, coin)))
+        Call::Look(place) => {
+            let at = outpoint(place);
+            Answer::Coin(ledger.look(&at)?.map(|coin| found(at, coin)))
         }
-        Call::First => found(ledger.next(None)?),
-        Call::Next { tx, index } => found(ledger.next(Some(&outpoint(tx, index)))?),
+        Call::Next(place) => {
+            let from = place.map(outpoint);
+            Answer::Coin(
+                ledger
+                    .next(from.as_ref())?
+                    .map(|(at, coin)| found(at, coin)),
+            )
+        }
         Call::Balance(lock) => Answer::Balance(ledger.balance(&lock)?),
     };
     Ok(answer)
 }
 
-// The answer to a call.
-pub fn perform<V: CoinsView, C: SpendCondition>(
-    ledger: &mut Ledger<V, C>,
-    blocks: &[Vec<u8>],
-    call: Call,
-) -> Answer {
-    match try_call(ledger, blocks, call) {
-        Ok(answer) => answer,
-        Err(fault) => Answer::Refused(fault.into()),
-    }
-}
-
 // Whether the call changes what a ledger reads as, given this answer.
-pub fn changes(call: Call, answer: Answer) -> bool {
-    match (call, answer) {
-        (_, Answer::Refused(_)) => false,
-        (Call::Start { .. } | Call::Connect(_) | Call::Disconnect | Call::Settle(_), _) => true,
+pub fn changes(call: Call, answer: Answered) -> bool {
+    match call {
+        Call::Start(_) | Call::Connect(_) | Call::Disconnect | Call::Settle(_) => answer.is_ok(),
         _ => false,
     }
 }

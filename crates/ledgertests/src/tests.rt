@@ -3,14 +3,33 @@ mod form;
 mod lists;
 mod piles;
 
-use crate::calls::{Answer, Call, changes, perform};
+use crate::calls::{Answered, Call, changes, perform};
 use crate::state::state_of;
+use coins::coin::{Coin, Lock};
+use coins::outpoint::Outpoint;
 use coinsview::view::CoinsView;
 use ledger::Ledger;
 use std::alloc::Global;
 use std::fmt::Display;
 use std::test::Fail;
 use views::condition::SpendCondition;
+
+// Cells that hold something, so that a table shows whether it empties them.
+const CELL: (Outpoint, Coin) = (
+    Outpoint {
+        id: [9; 32],
+        index: 9,
+    },
+    Coin {
+        value: 9,
+        lock: Lock {
+            kind: 9,
+            argument: 9,
+        },
+        height: 9,
+        coinbase: true,
+    },
+);
 
 // A test's failure, with what was looked at, where it does not hold.
 fn check<D: Display + Drop>(holds: bool, what: D) -> Result<(), Fail> {
@@ -27,7 +46,7 @@ fn call_agrees<V: CoinsView, C: SpendCondition>(
     blocks: &[Vec<u8>],
     number: usize,
     call: Call,
-    answer: Answer,
+    answer: Answered,
 ) -> Result<(), Fail> {
     let before = state_of(heap, ledger)?;
     let found = perform(ledger, blocks, call);
@@ -49,7 +68,7 @@ fn agrees<V: CoinsView, C: SpendCondition>(
     heap: Global,
     ledger: &mut Ledger<V, C>,
     blocks: &[Vec<u8>],
-    list: &[(Call, Answer)],
+    list: &[(Call, Answered)],
 ) -> Result<(), Fail> {
     for (number, (call, answer)) in (1usize..).zip(list) {
         call_agrees(heap, ledger, blocks, number, *call, *answer)?;

@@ -1,10 +1,9 @@
 // Compact sizes into short buffers, blocks and files above the limit, and peeks into block files.
 use crate::block::{coinbase_block, id, to_seven, write_record};
-use crate::tests::check;
+use crate::calls::refused;
+use crate::tests::{CELL, check};
 use blockform::fault::short_buffer;
 use blockform::file::FileReader;
-use coins::coin::{Coin, Lock};
-use coins::outpoint::Outpoint;
 use coinsview::table::FlatTable;
 use coinsview::view::CoinsView;
 use compact::{ShortBuffer, write_size};
@@ -92,22 +91,6 @@ fn check_said(refusal: Refusal, number: u8, layer: Layer, first: u64) -> Result<
     check(refusal.first == first && refusal.second == 0, "place")
 }
 
-const CELL: (Outpoint, Coin) = (
-    Outpoint {
-        id: [0; 32],
-        index: 0,
-    },
-    Coin {
-        value: 0,
-        lock: Lock {
-            kind: 1,
-            argument: 0,
-        },
-        height: 0,
-        coinbase: false,
-    },
-);
-
 // Connects that many zero bytes, of which 65 are a block.
 fn connect_zeros(heap: Global, count: usize) -> Result<Refusal, Fail> {
     let mut cells = [CELL; 2];
@@ -176,47 +159,29 @@ fn five_records(heap: Global) -> Result<Vec<u8>, AllocError> {
     Ok(file)
 }
 
-// Refused at a place.
-fn refused(reason: Reason, first: u64) -> Peek {
-    Err(Refusal {
-        reason,
-        first,
-        second: 0,
-    })
-}
-
-fn five_then_ended() -> [Peek; 7] {
+// The five records, and twice the last answer.
+fn five_then(last: Peek) -> [Peek; 7] {
     [
         Ok((1, 0)),
         Ok((3, 4)),
-        refused(Reason::Cut, 32),
-        refused(Reason::Cut, 0),
-        refused(Reason::Cut, 0),
-        refused(Reason::Ended, 0),
-        refused(Reason::Ended, 0),
-    ]
-}
-
-fn five_then_cut() -> [Peek; 7] {
-    [
-        Ok((1, 0)),
-        Ok((3, 4)),
-        refused(Reason::Cut, 32),
-        refused(Reason::Cut, 0),
-        refused(Reason::Cut, 0),
-        refused(Reason::FileCut, 289),
-        refused(Reason::FileCut, 289),
+        refused(Reason::Cut, 32, 0),
+        refused(Reason::Cut, 0, 0),
+        refused(Reason::Cut, 0, 0),
+        last,
+        last,
     ]
 }
 
 #[test]
 fn peeking(rt: HostRuntime) -> Result<(), Fail> {
     let heap = rt.alloc();
+    let ended = refused(Reason::Ended, 0, 0);
+    let cut = refused(Reason::FileCut, 289, 0);
     let mut file = five_records(heap)?;
-    peeks_agree("whole", file.as_slice(), &five_then_ended())?;
+    peeks_agree("whole", file.as_slice(), &five_then(ended))?;
     file.extend_from_slice(&[9, 0, 0])?;
-    peeks_agree("cut in the length", file.as_slice(), &five_then_cut())?;
+    peeks_agree("cut in the length", file.as_slice(), &five_then(cut))?;
     file.extend_from_slice(&[0, 1, 2, 3])?;
-    peeks_agree("cut in the block", file.as_slice(), &five_then_cut())?;
-    peeks_agree("empty", &[], &[refused(Reason::Ended, 0)])
+    peeks_agree("cut in the block", file.as_slice(), &five_then(cut))?;
+    peeks_agree("empty", &[], &[ended])
 }

@@ -1,59 +1,48 @@
 // Blocks and lists of calls with their answers.
 use crate::block::{Pay, Spend, coinbase_block, spending_block, to_seven};
 use crate::calls::{
-    Answer, Call, balance, coin, connected, disconnected, look, next, refused, start, tip, worth,
+    Answered, Call, DONE, NO_COIN, balance, coin, connected, disconnected, kept, look, next,
+    refused, start, tip, worth,
 };
-use refusal::{Reason, Refusal};
+use refusal::Reason;
 use std::alloc::{AllocError, Global};
 
-const NOT_STARTED: Answer = Answer::Refused(Refusal {
-    reason: Reason::NotStarted,
-    first: 0,
-    second: 0,
-});
-
-const PARAMETER: Answer = Answer::Refused(Refusal {
-    reason: Reason::Parameter,
-    first: 0,
-    second: 0,
-});
-
-const STARTED: Answer = Answer::Refused(Refusal {
-    reason: Reason::Started,
-    first: 0,
-    second: 0,
-});
-
-const NOTHING: Answer = Answer::Refused(Refusal {
-    reason: Reason::Nothing,
-    first: 0,
-    second: 0,
-});
+// Blocks of a coinbase alone, each after the one before it, by what they pay; fewer than 256.
+fn coinbase_blocks<const N: usize>(
+    heap: Global,
+    claims: &[[Pay; N]],
+) -> Result<Vec<Vec<u8>>, AllocError> {
+    let mut blocks = Vec::new(heap);
+    for (n, claims) in (0..u8::MAX).zip(claims) {
+        blocks.push(coinbase_block(heap, n.saturating_add(1), n, claims)?)?;
+    }
+    Ok(blocks)
+}
 
 // Every call before the start, starts out of range, and starts after the first. The blocks are `plain_blocks`.
-pub fn starting_calls() -> [(Call, Answer); 24] {
+pub fn starting_calls() -> [(Call, Answered); 24] {
     [
-        (Call::Connect(0), NOT_STARTED),
-        (Call::Disconnect, NOT_STARTED),
-        (Call::Settle(3), NOT_STARTED),
-        (Call::Flush, NOT_STARTED),
-        (Call::Tip, NOT_STARTED),
-        (look(101, 0), NOT_STARTED),
-        (Call::First, NOT_STARTED),
-        (next(101, 0), NOT_STARTED),
-        (balance(1, 7), NOT_STARTED),
-        (start(0, 1, 1), PARAMETER),
-        (start(210_001, 1, 1), PARAMETER),
-        (start(1, 0, 1), PARAMETER),
-        (start(1, 101, 1), PARAMETER),
-        (start(1, 1, 0), PARAMETER),
-        (start(1, 1, 4_294_967_296), PARAMETER),
-        (Call::Tip, NOT_STARTED),
-        (start(210_000, 100, 4_294_967_295), Answer::Done),
+        (Call::Connect(0), refused(Reason::NotStarted, 0, 0)),
+        (Call::Disconnect, refused(Reason::NotStarted, 0, 0)),
+        (Call::Settle(3), refused(Reason::NotStarted, 0, 0)),
+        (Call::Flush, refused(Reason::NotStarted, 0, 0)),
+        (Call::Tip, refused(Reason::NotStarted, 0, 0)),
+        (look(101, 0), refused(Reason::NotStarted, 0, 0)),
+        (Call::Next(None), refused(Reason::NotStarted, 0, 0)),
+        (next(101, 0), refused(Reason::NotStarted, 0, 0)),
+        (balance(1, 7), refused(Reason::NotStarted, 0, 0)),
+        (start(0, 1, 1), refused(Reason::Parameter, 0, 0)),
+        (start(210_001, 1, 1), refused(Reason::Parameter, 0, 0)),
+        (start(1, 0, 1), refused(Reason::Parameter, 0, 0)),
+        (start(1, 101, 1), refused(Reason::Parameter, 0, 0)),
+        (start(1, 1, 0), refused(Reason::Parameter, 0, 0)),
+        (start(1, 1, 4_294_967_296), refused(Reason::Parameter, 0, 0)),
+        (Call::Tip, refused(Reason::NotStarted, 0, 0)),
+        (start(210_000, 100, 4_294_967_295), DONE),
         (Call::Tip, tip(0, 0)),
-        (start(1, 1, 1), STARTED),
+        (start(1, 1, 1), refused(Reason::Started, 0, 0)),
         (Call::Connect(0), connected(1, 1, 0, 0, 4_999_999_999)),
-        (start(0, 0, 0), STARTED),
+        (start(0, 0, 0), refused(Reason::Started, 0, 0)),
         (Call::Connect(1), connected(2, 1, 0, 0, 4_999_999_998)),
         (Call::Tip, tip(2, 2)),
         (balance(1, 7), worth(2, 3)),
@@ -61,67 +50,62 @@ pub fn starting_calls() -> [(Call, Answer); 24] {
 }
 
 // A start over a view that holds a coin.
-pub fn calls_over_coins() -> [(Call, Answer); 5] {
+pub fn calls_over_coins() -> [(Call, Answered); 5] {
     [
         (start(1, 1, 1), refused(Reason::NotEmpty, 0, 0)),
-        (start(0, 1, 1), PARAMETER),
-        (Call::Tip, NOT_STARTED),
-        (Call::Flush, NOT_STARTED),
+        (start(0, 1, 1), refused(Reason::Parameter, 0, 0)),
+        (Call::Tip, refused(Reason::NotStarted, 0, 0)),
+        (Call::Flush, refused(Reason::NotStarted, 0, 0)),
         (start(1, 1, 1), refused(Reason::NotEmpty, 0, 0)),
     ]
 }
 
 // Block n of 4 pays n.
 pub fn plain_blocks(heap: Global) -> Result<Vec<Vec<u8>>, AllocError> {
-    let mut blocks = Vec::new(heap);
-    for n in 0..4u8 {
-        blocks.push(coinbase_block(heap, n + 1, n, &[to_seven(u64::from(n) + 1)])?)?;
-    }
-    Ok(blocks)
+    coinbase_blocks(
+        heap,
+        &[[to_seven(1)], [to_seven(2)], [to_seven(3)], [to_seven(4)]],
+    )
 }
 
 // Over `plain_blocks`.
-pub fn settling_calls() -> [(Call, Answer); 23] {
+pub fn settling_calls() -> [(Call, Answered); 23] {
     [
-        (start(100, 1, 50), Answer::Done),
-        (Call::Settle(3), Answer::Kept(0)),
-        (Call::Disconnect, NOTHING),
+        (start(100, 1, 50), DONE),
+        (Call::Settle(3), kept(0)),
+        (Call::Disconnect, refused(Reason::Nothing, 0, 0)),
         (Call::Connect(0), connected(1, 1, 0, 0, 4_999_999_999)),
         (Call::Connect(1), connected(2, 1, 0, 0, 4_999_999_998)),
         (Call::Connect(2), connected(3, 1, 0, 0, 4_999_999_997)),
         (Call::Connect(3), connected(4, 1, 0, 0, 4_999_999_996)),
-        (Call::Settle(9), Answer::Kept(4)),
-        (Call::Settle(2), Answer::Kept(2)),
-        (Call::Settle(3), Answer::Kept(2)),
+        (Call::Settle(9), kept(4)),
+        (Call::Settle(2), kept(2)),
+        (Call::Settle(3), kept(2)),
         (Call::Disconnect, disconnected(4)),
         (Call::Disconnect, disconnected(3)),
-        (Call::Disconnect, NOTHING),
+        (Call::Disconnect, refused(Reason::Nothing, 0, 0)),
         (Call::Tip, tip(2, 2)),
         (balance(1, 7), worth(2, 3)),
         (Call::Connect(2), connected(3, 1, 0, 0, 4_999_999_997)),
-        (Call::Settle(0), Answer::Kept(0)),
-        (Call::Disconnect, NOTHING),
+        (Call::Settle(0), kept(0)),
+        (Call::Disconnect, refused(Reason::Nothing, 0, 0)),
         (Call::Tip, tip(3, 3)),
-        (Call::Settle(18_446_744_073_709_551_615), Answer::Kept(0)),
+        (Call::Settle(18_446_744_073_709_551_615), kept(0)),
         (Call::Connect(3), connected(4, 1, 0, 0, 4_999_999_996)),
         (Call::Disconnect, disconnected(4)),
-        (Call::Disconnect, NOTHING),
+        (Call::Disconnect, refused(Reason::Nothing, 0, 0)),
     ]
 }
 
 // Eight blocks of 64 coins each: seven of them leave 57 of the 512 undo entries, and each needs 65.
 pub fn wide_blocks(heap: Global) -> Result<Vec<Vec<u8>>, AllocError> {
-    let mut blocks = Vec::new(heap);
-    for n in 0..8u8 {
-        blocks.push(coinbase_block(heap, n + 1, n, &[to_seven(1); 64])?)?;
-    }
-    Ok(blocks)
+    coinbase_blocks(heap, &[[to_seven(1); 64]; 8])
 }
 
 // Over `wide_blocks`: a settle frees entries for the block that found too few.
-pub fn crowding_calls() -> [(Call, Answer); 16] {
+pub fn crowding_calls() -> [(Call, Answered); 16] {
     [
-        (start(100, 1, 50), Answer::Done),
+        (start(100, 1, 50), DONE),
         (Call::Connect(0), connected(1, 64, 0, 0, 4_999_999_936)),
         (Call::Connect(1), connected(2, 64, 0, 0, 4_999_999_936)),
         (Call::Connect(2), connected(3, 64, 0, 0, 4_999_999_936)),
@@ -130,12 +114,12 @@ pub fn crowding_calls() -> [(Call, Answer); 16] {
         (Call::Connect(5), connected(6, 64, 0, 0, 4_999_999_936)),
         (Call::Connect(6), connected(7, 64, 0, 0, 4_999_999_936)),
         (Call::Connect(7), refused(Reason::LogFull, 0, 0)),
-        (Call::Settle(6), Answer::Kept(6)),
+        (Call::Settle(6), kept(6)),
         (Call::Connect(7), connected(8, 64, 0, 0, 4_999_999_936)),
         (balance(1, 7), worth(512, 512)),
-        (Call::Settle(1), Answer::Kept(1)),
+        (Call::Settle(1), kept(1)),
         (Call::Disconnect, disconnected(8)),
-        (Call::Disconnect, NOTHING),
+        (Call::Disconnect, refused(Reason::Nothing, 0, 0)),
         (balance(1, 7), worth(448, 448)),
     ]
 }
@@ -168,9 +152,9 @@ pub fn tight_blocks(heap: Global) -> Result<Vec<Vec<u8>>, AllocError> {
 }
 
 // Over `tight_blocks`: a coin that is there already is told before a full view.
-pub fn filling_calls() -> [(Call, Answer); 12] {
+pub fn filling_calls() -> [(Call, Answered); 12] {
     [
-        (start(100, 1, 50), Answer::Done),
+        (start(100, 1, 50), DONE),
         (Call::Connect(0), connected(1, 2, 0, 0, 4_999_997_000)),
         (Call::Connect(1), refused(Reason::Full, 0, 1)),
         (Call::Connect(2), refused(Reason::Full, 1, 1)),
@@ -263,55 +247,55 @@ pub fn mixed_blocks(heap: Global) -> Result<Vec<Vec<u8>>, AllocError> {
 }
 
 // Over `mixed_blocks`: every reading at the start, after one block, after two, and on the way back.
-pub fn reading_calls() -> [(Call, Answer); 38] {
+pub fn reading_calls() -> [(Call, Answered); 38] {
     [
-        (start(100, 1, 50), Answer::Done),
-        (Call::First, Answer::NoCoin),
-        (look(101, 0), Answer::NoCoin),
+        (start(100, 1, 50), DONE),
+        (Call::Next(None), NO_COIN),
+        (look(101, 0), NO_COIN),
         (balance(1, 7), worth(0, 0)),
         (Call::Connect(0), connected(1, 3, 0, 0, 4_999_993_000)),
         (Call::Tip, tip(1, 1)),
-        (Call::First, coin(101, 0, 1000)),
+        (Call::Next(None), coin(101, 0, 1000)),
         (next(101, 0), coin(101, 1, 2000)),
         (next(101, 1), coin(101, 3, 4000)),
         (next(101, 2), coin(101, 3, 4000)),
-        (next(101, 3), Answer::NoCoin),
+        (next(101, 3), NO_COIN),
         (next(50, 9), coin(101, 0, 1000)),
-        (next(200, 0), Answer::NoCoin),
+        (next(200, 0), NO_COIN),
         (look(101, 1), coin(101, 1, 2000)),
-        (look(101, 2), Answer::NoCoin),
+        (look(101, 2), NO_COIN),
         (balance(1, 8), worth(1, 2000)),
         (balance(2, 5), worth(1, 4000)),
         (balance(0, 0), worth(0, 0)),
         (Call::Connect(1), connected(2, 2, 2, 500, 5_000_000_495)),
         (Call::Tip, tip(2, 2)),
-        (Call::First, coin(101, 3, 4000)),
+        (Call::Next(None), coin(101, 3, 4000)),
         (next(101, 3), coin(102, 0, 5)),
         (next(102, 0), coin(202, 0, 2500)),
-        (next(202, 0), Answer::NoCoin),
+        (next(202, 0), NO_COIN),
         (balance(1, 7), worth(2, 2505)),
         (Call::Connect(1), refused(Reason::Parent, 0, 0)),
         (Call::Connect(2), refused(Reason::Shut, 1, 1)),
         (Call::Connect(3), refused(Reason::Missing, 1, 1)),
         (Call::Connect(4), refused(Reason::Claim, 0, 0)),
-        (Call::Flush, Answer::Done),
+        (Call::Flush, DONE),
         (Call::Disconnect, disconnected(2)),
         (Call::Tip, tip(1, 1)),
         (look(101, 0), coin(101, 0, 1000)),
-        (look(202, 0), Answer::NoCoin),
+        (look(202, 0), NO_COIN),
         (Call::Disconnect, disconnected(1)),
         (Call::Tip, tip(0, 0)),
-        (Call::First, Answer::NoCoin),
-        (Call::Disconnect, NOTHING),
+        (Call::Next(None), NO_COIN),
+        (Call::Disconnect, refused(Reason::Nothing, 0, 0)),
     ]
 }
 
 // Over `mixed_blocks`: coins that were flushed are spent.
-pub fn unflushed_calls() -> [(Call, Answer); 4] {
+pub fn unflushed_calls() -> [(Call, Answered); 4] {
     [
-        (start(100, 1, 50), Answer::Done),
+        (start(100, 1, 50), DONE),
         (Call::Connect(0), connected(1, 3, 0, 0, 4_999_993_000)),
-        (Call::Flush, Answer::Done),
+        (Call::Flush, DONE),
         (Call::Connect(1), connected(2, 2, 2, 500, 5_000_000_495)),
     ]
 }

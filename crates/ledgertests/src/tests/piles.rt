@@ -1,13 +1,13 @@
 // The lists over a flat table, a quota, and caches over them.
-use crate::calls::{Answer, Call};
+use crate::calls::{Answered, Call, DONE};
 use crate::state::state_of;
 use crate::tests::lists::{
     calls_over_coins, crowding_calls, filling_calls, mixed_blocks, plain_blocks, reading_calls,
     settling_calls, starting_calls, tight_blocks, unflushed_calls, wide_blocks,
 };
-use crate::tests::{agrees, check};
+use crate::tests::{CELL, agrees};
 use cache::cache::Cache;
-use coins::coin::{Coin, Lock};
+use coins::coin::Coin;
 use coins::outpoint::Outpoint;
 use coinsview::quota::Quota;
 use coinsview::table::FlatTable;
@@ -18,25 +18,8 @@ use std::test::Fail;
 use views::condition::Badge;
 use views::pile::{cached_quota, cached_table};
 
-// Cells that hold something, so that a table shows whether it empties them.
-const CELL: (Outpoint, Coin) = (
-    Outpoint {
-        id: [9; 32],
-        index: 9,
-    },
-    Coin {
-        value: 9,
-        lock: Lock {
-            kind: 9,
-            argument: 9,
-        },
-        height: 9,
-        coinbase: true,
-    },
-);
-
 // Makes the calls of a list on a new ledger over a cache on a table.
-fn cache_agrees(heap: Global, blocks: &[Vec<u8>], list: &[(Call, Answer)]) -> Result<(), Fail> {
+fn cache_agrees(heap: Global, blocks: &[Vec<u8>], list: &[(Call, Answered)]) -> Result<(), Fail> {
     let mut cells = [CELL; 512];
     let mut ledger = Ledger::new(cached_table(&mut cells), Badge);
     agrees(heap, &mut ledger, blocks, list)
@@ -84,17 +67,15 @@ fn filling_a_quota(rt: HostRuntime) -> Result<(), Fail> {
     agrees(heap, &mut ledger, &tight_blocks(heap)?, &filling_calls())
 }
 
-// Makes the calls over a cache on a table in the cells, with a flush at the end or without, and answers the coins.
+// Makes the calls, and then the last ones, over a cache on a table in the cells, and answers the coins.
 fn coins_after(
     heap: Global,
     cells: &mut [(Outpoint, Coin)],
-    flush: bool,
+    last: &[(Call, Answered)],
 ) -> Result<Vec<(Outpoint, Coin)>, Fail> {
     let mut ledger = Ledger::new(cached_table(cells), Badge);
     agrees(heap, &mut ledger, &mixed_blocks(heap)?, &unflushed_calls())?;
-    if flush {
-        check(ledger.flush().is_ok(), "flush")?;
-    }
+    agrees(heap, &mut ledger, &[], last)?;
     Ok(state_of(heap, &mut ledger)?.coins)
 }
 
@@ -103,10 +84,10 @@ fn coins_after(
 fn flushing(rt: HostRuntime) -> Result<(), Fail> {
     let heap = rt.alloc();
     let mut cells = [CELL; 8];
-    let coins = coins_after(heap, &mut cells, false)?;
+    let coins = coins_after(heap, &mut cells, &[])?;
     assert!(rt; coins.len() == 3);
     assert!(rt; !cells.starts_with(coins.as_slice()));
-    let coins = coins_after(heap, &mut cells, true)?;
+    let coins = coins_after(heap, &mut cells, &[(Call::Flush, DONE)])?;
     assert!(rt; coins.len() == 3);
     assert!(rt; cells.starts_with(coins.as_slice()));
     Ok(())
