@@ -39,6 +39,7 @@ fn coin(n: u64) -> Coin {
     }
 }
 
+// The number picks the call, and so sets how often each comes: of 16 calls six puts, four takes, three looks, two nexts and a count.
 fn call<V: CoinsView>(
     view: &mut V,
     model: &mut Model,
