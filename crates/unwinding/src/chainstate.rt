@@ -1,4 +1,4 @@
-// The coins of a view that is in order, and the undo entries of what was done to them.
+// The coins of a view, and the undo entries of what was done to them.
 use coinsview::view::CoinsView;
 use undo::Undo;
 
@@ -8,5 +8,4 @@ mod making;
 pub struct Chainstate<V: CoinsView> {
     pub view: V,
     pub undo: Undo,
-    pub ghost well: { V.CoinsView.ok view } by { V.CoinsView.single view },
 }
