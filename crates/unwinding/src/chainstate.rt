@@ -1,11 +1,10 @@
 // The coins of a view, and the undo entries of what was done to them.
-use coinsview::view::CoinsView;
 use undo::Undo;
 
 mod making;
 
 #[derive(Drop)]
-pub struct Chainstate<V: CoinsView> {
+pub struct Chainstate<V> {
     pub view: V,
     pub undo: Undo,
 }
