@@ -90,8 +90,6 @@ impl CoinsView for FlatTable<'_> {
 
     ghost small = { table_view.small };
 
-    ghost single = { table_view.single };
-
     fn capacity(&self) -> usize {
         self.cells.len()
     }
