@@ -144,7 +144,7 @@ fn make<V: CoinsView>(
 }
 
 // Puts the coins of a transaction's outputs in order, those of kind 0 aside. Answers how many were made and what was burned.
-pub fn make_outputs<V: CoinsView, C: SpendCondition>(
+pub fn make_outputs<V: CoinsView, C>(
     state: &mut Chainstate<V>,
     site: &Site<'_, C>,
     tx: &Transaction<'_>,
