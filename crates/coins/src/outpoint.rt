@@ -40,7 +40,7 @@ fn words(id: &[u8; 32]) -> [u64; 4]
     [word(id, 0), word(id, 8), word(id, 16), word(id, 24)]
 }
 
-// The order of two identifiers, word by word. As two arrays of words it takes half as long again where a balance walks 249 coins.
+// The order of two identifiers, word by word. As two arrays of words, balances over 249 coins took half as long again.
 fn compare_ids(a: &[u8; 32], b: &[u8; 32]) -> Ordering
     ensures { result ≡ slice_cmp nat_cmp a.now b.now }
 {

@@ -20,7 +20,7 @@ pub enum Command {
 }
 
 // The number that the digits at the front write, and what stands after them. None where it needs more than 64 bits. In one pass: by
-// `take_while` and the text's `parse`, which read the digits three times, a numeral took twice as long.
+// `take_while` and the text's `parse`, which read the digits three times, a line took 1.7 times as long.
 fn digits(bytes: &[u8]) -> Option<(u64, &[u8])>
     ensures { MatchOption result (18446744073709551616 ≤ value_after 0 bytes.now) (λ p. (p.0 ≡ value_after 0 bytes.now) × (p.1.now ≡ after_digits bytes.now)) }
 {
