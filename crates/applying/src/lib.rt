@@ -25,9 +25,11 @@ fn apply_spending<V: CoinsView, C: SpendCondition>(
     site: &Site<'_, C>,
     tx: &Transaction<'_>,
 ) -> Result<Sums, TransactionFault>
+    requires well { V.CoinsView.ok state.old.view }
     requires whole { length (inputs_in (items_of tx.now.inputs)) ≡ length (items_of tx.now.inputs) }
     requires money { Moneyed (value_of tx.now) }
     requires room { length (entries state.old.undo) + spending_needs (value_of tx.now) ≤ 512 }
+    ensures well { V.CoinsView.ok state.new.view }
     ensures value { Answers (spending (setting (V.CoinsView.most state.old.view) C.SpendCondition.opens site.now) site.now.height (value_of tx.now) (V.CoinsView.coins state.old.view)) result (V.CoinsView.coins state.new.view) }
     ensures taken { TakenBack V.CoinsView state.old state.new }
     ensures long { OnOk result (length (entries state.new.undo) ≡ length (entries state.old.undo) + spending_needs (value_of tx.now)) }
@@ -50,8 +52,10 @@ fn apply_others<V: CoinsView, C: SpendCondition>(
     site: &Site<'_, C>,
     others: Transactions<'_>,
 ) -> Result<Sums, BlockFault>
+    requires well { V.CoinsView.ok state.old.view }
     requires money { All Moneyed (transactions_of others) }
     requires room { length (entries state.old.undo) + others_needs (transactions_of others) ≤ 512 }
+    ensures well { V.CoinsView.ok state.new.view }
     ensures value { Answers (spending_all (setting (V.CoinsView.most state.old.view) C.SpendCondition.opens site.now) site.now.height 1 (transactions_of others.entry) (V.CoinsView.coins state.old.view) none) result (V.CoinsView.coins state.new.view) }
     ensures taken { TakenBack V.CoinsView state.old state.new }
     ensures long { OnOk result (length (entries state.new.undo) ≡ length (entries state.old.undo) + others_needs (transactions_of others.entry)) }
@@ -74,8 +78,10 @@ pub fn apply_block<V: CoinsView, C: SpendCondition>(
     site: &Site<'_, C>,
     block: &Block<'_>,
 ) -> Result<Sums, BlockFault>
+    requires well { V.CoinsView.ok state.old.view }
     requires money { All Moneyed (block_of block.now).transactions }
     requires room { length (entries state.old.undo) + transactions_needs (block_of block.now).transactions ≤ 512 }
+    ensures well { V.CoinsView.ok state.new.view }
     ensures value { Answers (effect (setting (V.CoinsView.most state.old.view) C.SpendCondition.opens site.now) site.now.height (block_of block.now).transactions (V.CoinsView.coins state.old.view)) result (V.CoinsView.coins state.new.view) }
     ensures taken { TakenBack V.CoinsView state.old state.new }
     ensures long { OnOk result (length (entries state.new.undo) ≡ length (entries state.old.undo) + transactions_needs (block_of block.now).transactions) }

@@ -5,7 +5,7 @@ use Rattle.coinsview.specs.declared.view.CoinsView.{Ghosts}
 use Rattle.entries.specs.Entries.{Entries}
 use Rattle.entries.specs.Table.{entries_in}
 use Rattle.cache.specs.declared.cache.Cache.{Cache}
-use Rattle.cache.specs.Kept.{Kept, sorted_over, kept_single}
+use Rattle.cache.specs.Kept.{Kept, sorted_over}
 use Rattle.cache.specs.Rules.{over_below}
 
 abbrev pub entries_of : {B : Type 0} → Cache B → Entries
@@ -24,9 +24,6 @@ map_of v c = over_below (entries_of c) (below_of v c)
 abbrev pub CacheOk : {B : Type 0} → Ghosts B → Cache B → Type 0
 CacheOk v c = v.ok c.below × Kept (entries_of c) c.count (below_of v c) (room_of v c)
 
-pub cache_single : {B : Type 0} (v : Ghosts B) (c : Cache B) → IsProp (CacheOk v c)
-cache_single v c = Prim.hlevel (v.single c.below, kept_single (entries_of c) c.count (below_of v c) (room_of v c))
-
 abbrev pub cache_view : {B : Type 0} → Ghosts B → Ghosts (Cache B)
 cache_view v = record {
   ok = CacheOk v;
@@ -36,5 +33,4 @@ cache_view v = record {
   sorted = λ c h. sorted_over (entries_of c) (below_of v c) (v.sorted c.below h.0);
   few = λ c h. h.1.fits;
   small = λ c h. v.small c.below h.0;
-  single = cache_single v;
 }

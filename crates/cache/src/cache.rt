@@ -165,8 +165,6 @@ impl<V: CoinsView> CoinsView for Cache<V> {
 
     ghost small = { (cache_view V.CoinsView).small };
 
-    ghost single = { (cache_view V.CoinsView).single };
-
     fn capacity(&self) -> usize {
         self.below.capacity()
     }

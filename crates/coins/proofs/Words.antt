@@ -1,10 +1,11 @@
 -- The order of two lists of bytes is that of the numbers which their fronts write, and then that of the rests. Assumes nothing.
-use Rattle.std.proofs.Common.{◌≡◌, ℕ, zero, suc, ◌+◌, ◌*◌, ◌<◌, ◌≤◌, List, [], ◌∷◌, length, get_or, take, drop, Ordering, Equal, sym, refl, ap, ◌∙◌, arith, length-drop, get_or-drop, drop-drop}
+use Rattle.std.proofs.Common.{◌≡◌, ℕ, zero, suc, ◌+◌, ◌*◌, ◌<◌, ◌≤◌, List, [], ◌∷◌, length, get_or, take, drop, Ordering, Less, Equal, Greater, sym, refl, ap, ◌∙◌, arith, length-drop, get_or-drop, drop-drop}
 use Rattle.std.proofs.lemmas.List.{drop_all}
 use Rattle.std.proofs.lemmas.Bool.Decides.{nat_tests}
 use Rattle.std.specs.Ordering.{ordering_then, nat_cmp}
 use Rattle.std.specs.Cmp.Lexicographic.{slice_cmp}
 use Rattle.std.specs.Int.Digits.{number_from_digits_after}
+use Rattle.std.proofs.lemmas.Map.Lookups.{exact_unsigned}
 use Rattle.coins.specs.Words.{word_at, words_of}
 
 abbrev Bytes : List ℕ → Type 0
@@ -40,3 +41,27 @@ words_order xs ys h k u v = sym (then_at 0 (omega arith) (omega arith) (then_at 
 
     none_left : slice_cmp nat_cmp (drop 32 xs) (drop 32 ys) ≡ Equal
     none_left = λ i. slice_cmp nat_cmp (drop_all 32 xs (omega arith) i) (drop_all 32 ys (omega arith) i)
+
+same_rank : (x y : ℕ) → x ≡ y → nat_cmp x y ≡ Equal
+same_rank x y e = grind (arith, nat_tests)
+
+then_first : (a b : Ordering) → (a ≡ Equal → ⊥) → ordering_then a b ≡ a
+then_first Less b n = refl
+then_first Equal b n = absurd (n refl)
+then_first Greater b n = refl
+
+-- where the words x and y at a place are equal, what follows them decides, and else they do
+module _ (xs ys : List ℕ) (place : ℕ) (h : place + 8 ≤ length xs) (k : place + 8 ≤ length ys) (u : Bytes xs) (v : Bytes ys) (x y : ℕ) (ex : x ≡ word_at xs place) (ey : y ≡ word_at ys place) where
+  by_them : slice_cmp nat_cmp (drop place xs) (drop place ys) ≡ ordering_then (nat_cmp x y) (slice_cmp nat_cmp (drop (place + 8) xs) (drop (place + 8) ys))
+  by_them = rw (ex, ey) (by_words xs ys place h k u v)
+
+  pub words_equal : (next : ℕ) → place + 8 ≡ next → x ≡ y → slice_cmp nat_cmp (drop place xs) (drop place ys) ≡ slice_cmp nat_cmp (drop next xs) (drop next ys)
+  words_equal next n e =
+      by_them ∙ ap (λ o. ordering_then o (slice_cmp nat_cmp (drop (place + 8) xs) (drop (place + 8) ys))) (same_rank x y e) ∙ ap (λ m. slice_cmp nat_cmp (drop m xs) (drop m ys)) n
+
+  pub words_differ : (x ≡ y → ⊥) → slice_cmp nat_cmp (drop place xs) (drop place ys) ≡ nat_cmp x y
+  words_differ n =
+      by_them ∙ then_first (nat_cmp x y) (slice_cmp nat_cmp (drop (place + 8) xs) (drop (place + 8) ys)) (λ e. n (exact_unsigned x y e))
+
+pub none_left : (n : ℕ) (xs ys : List ℕ) → length xs ≤ n → length ys ≤ n → slice_cmp nat_cmp (drop n xs) (drop n ys) ≡ Equal
+none_left n xs ys h k = λ i. slice_cmp nat_cmp (drop_all n xs h i) (drop_all n ys k i)

@@ -5,8 +5,6 @@ use Rattle.coins.specs.declared.coin.Coin.{Coin}
 use Rattle.coins.specs.declared.outpoint.Outpoint.{Outpoint}
 use Rattle.maps.specs.Maps.{Sorted}
 use Rattle.maps.specs.Keyed.{outpoints}
-use Rattle.maps.specs.Single.{sorted_single}
-use Rattle.std.proofs.Props.{props}
 use Rattle.coinsview.specs.Kept.{take_few}
 use Rattle.coinsview.specs.Meaning.{Coins}
 use Rattle.coinsview.specs.declared.table.FlatTable.{FlatTable}
@@ -33,9 +31,6 @@ pub record TableOk (used : ℕ) (cells : Coins) : Type 0 where
   pub small : length cells ≤ 4096
   pub sorted : Sorted outpoints (used_cells used cells)
 
-pub table_single : (used : ℕ) (cells : Coins) → IsProp (TableOk used cells)
-table_single used cells = Prim.hlevel (props, sorted_single outpoints (used_cells used cells))
-
 abbrev pub table_view : Ghosts FlatTable
 table_view = record {
   ok = λ t. TableOk t.used (cells_of t);
@@ -45,5 +40,4 @@ table_view = record {
   sorted = λ t h. h.sorted;
   few = λ t h. take_few t.used (cells_of t) h.within;
   small = λ t h. h.small;
-  single = λ t. table_single t.used (cells_of t);
 }

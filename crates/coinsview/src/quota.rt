@@ -41,8 +41,6 @@ impl<V: CoinsView> CoinsView for Quota<V> {
 
     ghost small = { (quota_view V.CoinsView).small };
 
-    ghost single = { (quota_view V.CoinsView).single };
-
     fn capacity(&self) -> usize {
         self.limit
     }

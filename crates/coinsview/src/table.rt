@@ -64,7 +64,8 @@ impl FlatTable<'_> {
         &self.cells[0..self.used]
     }
 
-    // The place of k among the used cells, as `Ok` where it has a coin.
+    // The place of k among the used cells, as `Ok` where it has a coin. Called, as the search of a cache's entries is.
+    #[inline(never)]
     fn find(&self, k: &Outpoint) -> Result<usize, usize>
         requires { table_view.ok self.now }
         ensures found { Found outpoints k.now (coins_of self.now) result }
@@ -89,8 +90,6 @@ impl CoinsView for FlatTable<'_> {
     ghost few = { table_view.few };
 
     ghost small = { table_view.small };
-
-    ghost single = { table_view.single };
 
     fn capacity(&self) -> usize {
         self.cells.len()

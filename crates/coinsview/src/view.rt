@@ -12,8 +12,7 @@ use coins::outpoint::Outpoint;
 // Pairs outpoints with coins, at most `most` of them. Nothing is refused but a put; a question, a refusal and a flush leave
 // the map. Only flush says what the bottom map is; any other call may move it.
 pub trait CoinsView {
-    // Links, flags and counts are in order: making gives it, each call needs it and keeps it. A trait has no invariant to say
-    // this once.
+    // Links, flags and counts are in order: making gives it, each call needs it and keeps it.
     ghost ok: { Self → Type 0 };
 
     // The capacity, which no call changes.
@@ -31,9 +30,6 @@ pub trait CoinsView {
     ghost few: { (s : Self) → ok s → length (coins s) ≤ most s };
 
     ghost small: { (s : Self) → ok s → most s ≤ 4096 };
-
-    // Being in order has one proof at most, so that a type over a view can carry it.
-    ghost single: { (s : Self) → IsProp (ok s) };
 
     // The capacity.
     fn capacity(&self) -> usize

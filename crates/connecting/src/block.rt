@@ -5,7 +5,7 @@ ghost use Rattle.connecting.specs.Rules.{added, Fit};
 use std::ops::Add;
 
 // The spend condition, at which height a block is applied, how old a coinbase's coin has to be to be spent, and the halving interval.
-#[derive(Drop)]
+#[derive_where(Clone, Copy)]
 pub struct Site<'a, C> {
     pub condition: &'a C,
     pub height: u32,

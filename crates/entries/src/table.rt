@@ -125,7 +125,9 @@ impl EntryTable {
         self.slots.entries.len() < MOST_ENTRIES
     }
 
-    // The place of k, as `Ok` where it has an entry.
+    // The place of k, as `Ok` where it has an entry. Called, and not written into each caller: so written, connecting and taking back
+    // small blocks took half as long again.
+    #[inline(never)]
     pub fn find(&self, k: &Outpoint) -> Result<usize, usize>
         ensures { Found outpoints k.now (entries_in self.now) result }
     {

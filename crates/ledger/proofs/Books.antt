@@ -105,13 +105,13 @@ replay_value t (b ∷ bs) a =
 
 module _ {V C : Type 0} (v : ViewGhosts V) (c : ConditionGhosts C) where
   -- a ledger that stands by a book is started, and its active chain is the book's
-  pub stands_started : (k : Book) (l : Ledger V C v) → Stands v c k l → started l ≡ true
+  pub stands_started : (k : Book) (l : Ledger V C) → Stands v c k l → started l ≡ true
   stands_started k l s = some_since (ChainOf k) l.active s.active
 
-  pub chain_of : (k : Book) (l : Ledger V C v) (h : ActiveChain) → l.active ≡ Some h → Stands v c k l → ChainOf k h
+  pub chain_of : (k : Book) (l : Ledger V C) (h : ActiveChain) → l.active ≡ Some h → Stands v c k l → ChainOf k h
   chain_of k l h e s = subst (λ o. IsSomeAnd o (ChainOf k)) e s.active
 
-  pub same_stands : (k : Book) (a z : Ledger V C v) → Stands v c k a → Unchanged v a z → Stands v c k z
+  pub same_stands : (k : Book) (a z : Ledger V C) → Stands v c k a → Unchanged v a z → Stands v c k z
   same_stands k a z s e = record {
     active = subst (λ o. IsSomeAnd o (ChainOf k)) (sym e.active) s.active;
     room = e.room ∙ s.room;
@@ -122,11 +122,11 @@ module _ {V C : Type 0} (v : ViewGhosts V) (c : ConditionGhosts C) where
   }
 
   -- a ledger that keeps a block finds its mark
-  pub mark_found : {X : Type 0} (k : Book) (a : Ledger V C v) (h : ActiveChain) → a.active ≡ Some h → Stands v c k a → (h.kept ≡ 0 → ⊥) → back (v.most a.state.view) (entries a.state.undo) (v.coins a.state.view) true ≡ None → X
+  pub mark_found : {X : Type 0} (k : Book) (a : Ledger V C) (h : ActiveChain) → a.active ≡ Some h → Stands v c k a → (h.kept ≡ 0 → ⊥) → back (v.most a.state.view) (entries a.state.undo) (v.coins a.state.view) true ≡ None → X
   mark_found k a h i s n e = unwinds_found k.terms k.blocks k.kept (entries a.state.undo) s.undo (λ z. n ((chain_of k a h i s).kept ∙ z)) (ap (λ n. back n (entries a.state.undo) (coins_of k) true) (sym s.room) ∙ ap (λ m. back (v.most a.state.view) (entries a.state.undo) m true) (sym s.coins) ∙ e)
 
   -- fewer blocks are kept
-  pub settle_law : (k : Book) (a z : Ledger V C v) (h w : ActiveChain) (n : ℕ) → a.active ≡ Some h → Stands v c k a → n < h.kept → z.state.view ≡ a.state.view → z.condition ≡ a.condition → z.active ≡ Some w → w.terms ≡ h.terms → w.tip ≡ h.tip → w.kept ≡ n → entries z.state.undo ≡ newest n (entries a.state.undo) → Stands v c (settled k n) z × (◌≡◌ {A = Result ℕ LedgerFault} (Ok n) (Ok (min n k.kept)))
+  pub settle_law : (k : Book) (a z : Ledger V C) (h w : ActiveChain) (n : ℕ) → a.active ≡ Some h → Stands v c k a → n < h.kept → z.state.view ≡ a.state.view → z.condition ≡ a.condition → z.active ≡ Some w → w.terms ≡ h.terms → w.tip ≡ h.tip → w.kept ≡ n → entries z.state.undo ≡ newest n (entries a.state.undo) → Stands v c (settled k n) z × (◌≡◌ {A = Result ℕ LedgerFault} (Ok n) (Ok (min n k.kept)))
   settle_law k a z h w n i s l zv zc zw zt zp zk ze =
       let t = chain_of k a h i s in
       let less : min n k.kept ≡ n = omega (arith, t.kept, l) in

@@ -47,7 +47,7 @@ checks_say tip h last b e =
     let q = test_yes (ltb h last) (transactions_checks b.transactions) LastHeight tt p.1 in
     (lex_equal b.previous tip (equal_is (slice_cmp nat_cmp b.previous tip) p.0), q.1)
 
-module _ {V C : Type 0} (v : ViewGhosts V) (c : ConditionGhosts C) (k : Book) (a : Ledger V C v) (q : ActiveChain) (i : a.active ≡ Some q) (s : Stands v c k a) where
+module _ {V C : Type 0} (v : ViewGhosts V) (c : ConditionGhosts C) (k : Book) (a : Ledger V C) (q : ActiveChain) (i : a.active ≡ Some q) (s : Stands v c k a) where
   of_book : ChainOf k q
   of_book = chain_of v c k a q i s
 
@@ -105,10 +105,10 @@ module _ {V C : Type 0} (v : ViewGhosts V) (c : ConditionGhosts C) (k : Book) (a
         )
 
   -- a refusal leaves the book, and the ledger as it reads
-  pub refused_law : (z : Ledger V C v) (bytes : List ℕ) (f : BlockFault) → Unchanged v a z → connect_bytes k bytes ≡ Err f → Stands v c (connected k bytes) z × (◌≡◌ {A = Result Connected BlockFault} (Err f) (told k (connect_bytes k bytes)))
+  pub refused_law : (z : Ledger V C) (bytes : List ℕ) (f : BlockFault) → Unchanged v a z → connect_bytes k bytes ≡ Err f → Stands v c (connected k bytes) z × (◌≡◌ {A = Result Connected BlockFault} (Err f) (told k (connect_bytes k bytes)))
   refused_law z bytes f e h = (subst (λ x. Stands v c (with_block k x) z) (sym h) (same_stands v c k a z s e), sym (ap (told k) h))
 
-  pub accepted_law : (z : Ledger V C v) (w : ActiveChain) (bytes : List ℕ) (b : BlockValue) (m : Coins) (sums : Sums) → connect_bytes k bytes ≡ Ok (b, sums) → accept k.terms k.blocks b (coins_of k) ≡ Ok (m, sums) → b.previous ≡ q.tip.id
+  pub accepted_law : (z : Ledger V C) (w : ActiveChain) (bytes : List ℕ) (b : BlockValue) (m : Coins) (sums : Sums) → connect_bytes k bytes ≡ Ok (b, sums) → accept k.terms k.blocks b (coins_of k) ≡ Ok (m, sums) → b.previous ≡ q.tip.id
       → v.most z.state.view ≡ v.most a.state.view → z.condition ≡ a.condition → z.active ≡ Some w → w.terms ≡ q.terms → v.coins z.state.view ≡ m → w.tip.id ≡ b.id → w.tip.height ≡ q.tip.height + 1 → w.kept ≡ q.kept + 1
       → back (v.most a.state.view) (entries z.state.undo) (v.coins z.state.view) true ≡ Some (record { previous = b.previous; below = entries a.state.undo; coins = v.coins a.state.view; clean = true }) → length (entries z.state.undo) ≡ needs b + length (entries a.state.undo)
       → Stands v c (connected k bytes) z × (◌≡◌ {A = Result Connected BlockFault} (Ok (record { height = q.tip.height + 1; made = sums.made; spent = sums.spent; fees = sums.fees; burned = sums.burned })) (told k (connect_bytes k bytes)))

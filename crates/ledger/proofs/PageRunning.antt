@@ -45,7 +45,7 @@ stays_all bytes (c ∷ cs) p k e =
     stays_all bytes cs (page_after bytes c p) (book_after bytes c k) (ap (page_after bytes c) e ∙ (page_book bytes c k).0)
 
 module _ {V C : Type 0} (v : ViewGhosts V) (c : ConditionGhosts C) where
-  book_laws : (b : Book) (bytes : List ℕ) (cs : List Call) (l : Ledger V C v) → Stands v c b l → (ends_in_flush cs ≡ true → v.bottom l.state.view ≡ v.coins l.state.view) → BookLaws v c b bytes cs l
+  book_laws : (b : Book) (bytes : List ℕ) (cs : List Call) (l : Ledger V C) → Stands v c b l → (ends_in_flush cs ≡ true → v.bottom l.state.view ≡ v.coins l.state.view) → BookLaws v c b bytes cs l
   book_laws b bytes cs l s f =
       record {
         coins = s.coins;
@@ -55,18 +55,18 @@ module _ {V C : Type 0} (v : ViewGhosts V) (c : ConditionGhosts C) where
         flushed = f;
       }
 
-  page_laws : (q : Page) (bytes : List ℕ) (cs : List Call) (l : Ledger V C v) → At v c q l → (started l ≡ true → ends_in_flush cs ≡ true → v.bottom l.state.view ≡ v.coins l.state.view) → (b : Book) → q ≡ standing b → BookLaws v c b bytes cs l
+  page_laws : (q : Page) (bytes : List ℕ) (cs : List Call) (l : Ledger V C) → At v c q l → (started l ≡ true → ends_in_flush cs ≡ true → v.bottom l.state.view ≡ v.coins l.state.view) → (b : Book) → q ≡ standing b → BookLaws v c b bytes cs l
   page_laws q bytes cs l s f b e = let t : Stands v c b l = subst (λ x. At v c x l) e s in book_laws b bytes cs l t (f (stands_started v c b l t))
 
   -- a call that does what the page says follows the book
-  pub follows_book : (bytes : List ℕ) (x : Call) (r : Answer) (a z : Ledger V C v) → ((p : Page) → At v c p a → At v c (page_after bytes x p) z × (r ≡ answer_on bytes x p)) → Follows v c a z r (book_after bytes x) (answer_of bytes x)
+  pub follows_book : (bytes : List ℕ) (x : Call) (r : Answer) (a z : Ledger V C) → ((p : Page) → At v c p a → At v c (page_after bytes x p) z × (r ≡ answer_on bytes x p)) → Follows v c a z r (book_after bytes x) (answer_of bytes x)
   follows_book bytes x r a z law k s =
       let one = law (standing k) s in
       let same = page_book bytes x k in
       (subst (λ y. At v c y z) same.0 one.0, one.1 ∙ same.1)
 
   -- before any call
-  pub laws_none : (p : Page) (bytes : List ℕ) (l : Ledger V C v) → At v c p l → PageLaws v c p bytes [] [] l
+  pub laws_none : (p : Page) (bytes : List ℕ) (l : Ledger V C) → At v c p l → PageLaws v c p bytes [] [] l
   laws_none p bytes l s = record {
     page = s;
     answers = refl;
@@ -75,12 +75,12 @@ module _ {V C : Type 0} (v : ViewGhosts V) (c : ConditionGhosts C) where
   }
 
   -- of two ledgers on one page both are started or none
-  still_started : (q : Page) (a z : Ledger V C v) → At v c q a → At v c q z → started z ≡ true → started a ≡ true
+  still_started : (q : Page) (a z : Ledger V C) → At v c q a → At v c q z → started z ≡ true → started a ≡ true
   still_started (unstarted n o m) a z w y t = absurd (let s = y.started in let e : ◌≡◌ {A = ℕ} 0 1 = cc in omega arith)
   still_started (standing k) a z w y t = stands_started v c k a w
 
   -- one call more
-  pub laws_more : (p : Page) (bytes : List ℕ) (cs : List Call) (said : List Answer) (x : Call) (r : Answer) (a z : Ledger V C v)
+  pub laws_more : (p : Page) (bytes : List ℕ) (cs : List Call) (said : List Answer) (x : Call) (r : Answer) (a z : Ledger V C)
       → ((q : Page) → At v c q a → At v c (page_after bytes x q) z × (r ≡ answer_on bytes x q))
       → (x ≡ call.Flush → started a ≡ true → v.bottom z.state.view ≡ v.coins z.state.view)
       → PageLaws v c p bytes cs said a → PageLaws v c p bytes (cs ++ (x ∷ [])) (said ++ (r ∷ [])) z
@@ -99,7 +99,7 @@ module _ {V C : Type 0} (v : ViewGhosts V) (c : ConditionGhosts C) where
       }
 
   -- one call more of a list
-  pub laws_next : (p : Page) (bytes : List ℕ) (cs : List Call) (said : List Answer) (i : ℕ) (d : Call) (r : Answer) (z : Ledger V C v)
+  pub laws_next : (p : Page) (bytes : List ℕ) (cs : List Call) (said : List Answer) (i : ℕ) (d : Call) (r : Answer) (z : Ledger V C)
       → i < length cs → i < length said
       → PageLaws v c p bytes (take i cs ++ (get_or cs i d ∷ [])) (take i said ++ (r ∷ [])) z
       → PageLaws v c p bytes (take (i + 1) cs) (take (i + 1) (set said i r)) z

@@ -16,7 +16,7 @@ use Rattle.ledger.specs.Answers.{Granted, answer_to, changes}
 use Rattle.ledger.specs.PageLaws.{Performed}
 use Rattle.ledger.specs.declared.runs.Call.{Call}
 
-pub unchanged : {V C : Type 0} (v : ViewGhosts V) (a z : Ledger V C v) → z ≡ a → Unchanged v a z
+pub unchanged : {V C : Type 0} (v : ViewGhosts V) (a z : Ledger V C) → z ≡ a → Unchanged v a z
 unchanged v a z e = record {
   room = ap (λ l. v.most l.state.view) e;
   condition = ap (λ l. l.condition) e;
@@ -27,27 +27,27 @@ unchanged v a z e = record {
 
 module _ {V C : Type 0} (v : ViewGhosts V) (c : ConditionGhosts C) where
   -- a call that follows the book once it is started
-  pub on_page : {X : Type 0} (a z : Ledger V C v) (r : Result X LedgerFault) (f : Book → Book) (g : Book → Result X LedgerFault) → Early a z r → Follows v c a z r f g → (p : Page) → At v c p a → At v c (book_by f p) z × (r ≡ from_book g p)
+  pub on_page : {X : Type 0} (a z : Ledger V C) (r : Result X LedgerFault) (f : Book → Book) (g : Book → Result X LedgerFault) → Early a z r → Follows v c a z r f g → (p : Page) → At v c p a → At v c (book_by f p) z × (r ≡ from_book g p)
   on_page a z r f g early law (unstarted n o m) w = let e = early w.started in (subst (Waits v c n o m) (sym e.1) w, e.0)
   on_page a z r f g early law (standing k) s = law k s
 
   -- a call that leaves the page
-  pub on_same_page : {X : Type 0} (a z : Ledger V C v) (r : Result X LedgerFault) (g : Book → Result X LedgerFault) → Early a z r → Follows v c a z r (λ k. k) g → (p : Page) → At v c p a → At v c p z × (r ≡ from_book g p)
+  pub on_same_page : {X : Type 0} (a z : Ledger V C) (r : Result X LedgerFault) (g : Book → Result X LedgerFault) → Early a z r → Follows v c a z r (λ k. k) g → (p : Page) → At v c p a → At v c p z × (r ≡ from_book g p)
   on_same_page a z r g early law (unstarted n o m) w = let e = early w.started in (subst (Waits v c n o m) (sym e.1) w, e.0)
   on_same_page a z r g early law (standing k) s = law k s
 
   -- a refused call leaves the ledger, if it does so once it is started
-  pub kept_on_page : {X : Type 0} (a z : Ledger V C v) (r : Result X LedgerFault) → Early a z r → ((k : Book) → Stands v c k a → is_ok r ≡ false → Unchanged v a z) → (p : Page) → At v c p a → is_ok r ≡ false → Unchanged v a z
+  pub kept_on_page : {X : Type 0} (a z : Ledger V C) (r : Result X LedgerFault) → Early a z r → ((k : Book) → Stands v c k a → is_ok r ≡ false → Unchanged v a z) → (p : Page) → At v c p a → is_ok r ≡ false → Unchanged v a z
   kept_on_page a z r early same (unstarted n o m) w e = unchanged v a z (early w.started).1
   kept_on_page a z r early same (standing k) s e = same k s e
 
   -- ---- the start
 
-  begins : (n : ℕ) (o : Opens) (m : Coins) (t : Terms) (a z : Ledger V C v) (r : Result Unit LedgerFault) → Waits v c n o m a → (is_ok r ≡ false → z ≡ a) → (is_ok r ≡ true → Stands v c (fresh t) z) → At v c (begun_by r (unstarted n o m) t) z
+  begins : (n : ℕ) (o : Opens) (m : Coins) (t : Terms) (a z : Ledger V C) (r : Result Unit LedgerFault) → Waits v c n o m a → (is_ok r ≡ false → z ≡ a) → (is_ok r ≡ true → Stands v c (fresh t) z) → At v c (begun_by r (unstarted n o m) t) z
   begins n o m t a z (Ok u) w same start = start refl
   begins n o m t a z (Err f) w same start = subst (Waits v c n o m) (sym (same refl)) w
 
-  pub start_on_page : (x : Parameters) (id : List ℕ) (a z : Ledger V C v) (r : Result Unit LedgerFault)
+  pub start_on_page : (x : Parameters) (id : List ℕ) (a z : Ledger V C) (r : Result Unit LedgerFault)
       → r ≡ start_answer (started a) (in_range x) (length (v.coins a.state.view))
       → (is_ok r ≡ false → z ≡ a)
       → (is_ok r ≡ true → Stands v c (fresh (start_terms (v.most a.state.view) (c.opens a.condition) x id)) z)
@@ -62,7 +62,7 @@ module _ {V C : Type 0} (v : ViewGhosts V) (c : ConditionGhosts C) where
 
   -- ---- any call
 
-  pub performs : (bytes : List ℕ) (x y : Call) (r : Result (Granted y) LedgerFault) (says : Page → Result (Granted y) LedgerFault) (a z : Ledger V C v)
+  pub performs : (bytes : List ℕ) (x y : Call) (r : Result (Granted y) LedgerFault) (says : Page → Result (Granted y) LedgerFault) (a z : Ledger V C)
       → x ≡ y
       → ((p : Page) → answer_on bytes y p ≡ answer_to y (says p))
       → ((p : Page) → At v c p a → At v c (page_after bytes y p) z × (r ≡ says p))

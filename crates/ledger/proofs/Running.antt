@@ -39,16 +39,16 @@ flush_is (call.Next from) e = absurd (let z : ◌≡◌ {A = ℕ} 0 1 = cc in om
 flush_is (call.Balance lock) e = absurd (let z : ◌≡◌ {A = ℕ} 0 1 = cc in omega arith)
 
 -- what lasts from call to call
-pub record Runs {V C : Type 0} (v : ViewGhosts V) (c : ConditionGhosts C) (k : Book) (bytes : List ℕ) (cs : List Call) (said : List Answer) (l : Ledger V C v) : Type 0 where
+pub record Runs {V C : Type 0} (v : ViewGhosts V) (c : ConditionGhosts C) (k : Book) (bytes : List ℕ) (cs : List Call) (said : List Answer) (l : Ledger V C) : Type 0 where
   pub stands : Stands v c (books_after bytes cs k) l
   pub answers : said ≡ answers_of bytes cs k
   pub flushed : ends_in_flush cs ≡ true → v.bottom l.state.view ≡ v.coins l.state.view
 
 module _ {V C : Type 0} (v : ViewGhosts V) (c : ConditionGhosts C) (k : Book) (bytes : List ℕ) where
-  pub runs_none : (cs : List Call) (said : List Answer) (l : Ledger V C v) → Stands v c k l → Runs v c k bytes (take 0 cs) (take 0 said) l
+  pub runs_none : (cs : List Call) (said : List Answer) (l : Ledger V C) → Stands v c k l → Runs v c k bytes (take 0 cs) (take 0 said) l
   runs_none cs said l s = record { stands = s; answers = refl; flushed = λ h. absurd (let z : ◌≡◌ {A = ℕ} 0 1 = cc in omega arith) }
 
-  pub runs_more : (cs : List Call) (said : List Answer) (i : ℕ) (d : Call) (x : Answer) (a z : Ledger V C v) → i < length cs → i < length said → Runs v c k bytes (take i cs) (take i said) a
+  pub runs_more : (cs : List Call) (said : List Answer) (i : ℕ) (d : Call) (x : Answer) (a z : Ledger V C) → i < length cs → i < length said → Runs v c k bytes (take i cs) (take i said) a
       → Follows v c a z x (book_after bytes (get_or cs i d)) (answer_of bytes (get_or cs i d)) → (get_or cs i d ≡ call.Flush → started a ≡ true → v.bottom z.state.view ≡ v.coins z.state.view)
       → Runs v c k bytes (take (i + 1) cs) (take (i + 1) (set said i x)) z
   runs_more cs said i d x a z h g r f b =
@@ -61,7 +61,7 @@ module _ {V C : Type 0} (v : ViewGhosts V) (c : ConditionGhosts C) (k : Book) (b
         flushed = λ e. b (flush_is (get_or cs i d) (sym (ap ends_in_flush one ∙ ends_more (take i cs) (get_or cs i d)) ∙ e)) (stands_started v c (books_after bytes (take i cs) k) a r.stands);
       }
 
-  pub runs_laws : (cs : List Call) (said : List Answer) (l : Ledger V C v) → Runs v c k bytes cs said l → Laws v c k bytes cs said l
+  pub runs_laws : (cs : List Call) (said : List Answer) (l : Ledger V C) → Runs v c k bytes cs said l → Laws v c k bytes cs said l
   runs_laws cs said l r =
       let b = books_after bytes cs k in
       let s = r.stands in

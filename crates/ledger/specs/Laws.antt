@@ -31,7 +31,7 @@ ends_in_flush (c ∷ []) = is_flush c
 ends_in_flush (c ∷ (d ∷ cs)) = ends_in_flush (d ∷ cs)
 
 -- l is the ledger after the calls cs, which were answered by `said`; k is the book that it stood by before them
-pub record Laws {V C : Type 0} (v : ViewGhosts V) (c : ConditionGhosts C) (k : Book) (bytes : List ℕ) (cs : List Call) (said : List Answer) (l : Ledger V C v) : Type 0 where
+pub record Laws {V C : Type 0} (v : ViewGhosts V) (c : ConditionGhosts C) (k : Book) (bytes : List ℕ) (cs : List Call) (said : List Answer) (l : Ledger V C) : Type 0 where
   -- the ledger stands by the book after these calls
   pub stands : Stands v c (books_after bytes cs k) l
   -- its coins are those left by replaying the standing blocks, and every call was answered as the book answers

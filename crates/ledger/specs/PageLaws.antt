@@ -18,7 +18,7 @@ use Rattle.ledger.specs.Pages.{Page, standing, At, page_after, answer_on, pages_
 use Rattle.ledger.specs.Standing.{Unchanged}
 
 -- The call x takes the ledger a to z and is answered by r.
-pub record Performed {V C : Type 0} (v : ViewGhosts V) (c : ConditionGhosts C) (bytes : List ℕ) (x : Call) (r : Answer) (a z : Ledger V C v) : Type 0 where
+pub record Performed {V C : Type 0} (v : ViewGhosts V) (c : ConditionGhosts C) (bytes : List ℕ) (x : Call) (r : Answer) (a z : Ledger V C) : Type 0 where
   -- whatever page a is on, z is on the page after the call, and r is that page's answer
   pub law : (p : Page) → At v c p a → At v c (page_after bytes x p) z × (r ≡ answer_on bytes x p)
   -- r is an answer to such a call
@@ -27,7 +27,7 @@ pub record Performed {V C : Type 0} (v : ViewGhosts V) (c : ConditionGhosts C) (
   pub same : (p : Page) → At v c p a → changes r ≡ false → Unchanged v a z
 
 -- The laws of a started ledger l that the calls cs have brought to the book b.
-pub record BookLaws {V C : Type 0} (v : ViewGhosts V) (c : ConditionGhosts C) (b : Book) (bytes : List ℕ) (cs : List Call) (l : Ledger V C v) : Type 0 where
+pub record BookLaws {V C : Type 0} (v : ViewGhosts V) (c : ConditionGhosts C) (b : Book) (bytes : List ℕ) (cs : List Call) (l : Ledger V C) : Type 0 where
   -- its coins are those left by replaying the standing blocks
   pub coins : v.coins l.state.view ≡ replay b.terms b.blocks
   -- their values, with what the standing blocks burned, add up to the subsidies at the heights of these blocks
@@ -39,7 +39,7 @@ pub record BookLaws {V C : Type 0} (v : ViewGhosts V) (c : ConditionGhosts C) (b
   pub flushed : ends_in_flush cs ≡ true → v.bottom l.state.view ≡ v.coins l.state.view
 
 -- The ledger l was on the page p; then came the calls cs, and were answered by `said`.
-pub record PageLaws {V C : Type 0} (v : ViewGhosts V) (c : ConditionGhosts C) (p : Page) (bytes : List ℕ) (cs : List Call) (said : List Answer) (l : Ledger V C v) : Type 0 where
+pub record PageLaws {V C : Type 0} (v : ViewGhosts V) (c : ConditionGhosts C) (p : Page) (bytes : List ℕ) (cs : List Call) (said : List Answer) (l : Ledger V C) : Type 0 where
   -- it is on the page after these calls
   pub page : At v c (pages_after bytes cs p) l
   -- every call was answered as the page answers: before the start by a refusal, then as the book answers

@@ -29,14 +29,14 @@ pub data Page : Type 0 where
   standing : Book → Page
 
 -- the ledger l is not started, over a view with the capacity n and the coins m, and over the condition o
-pub record Waits {V C : Type 0} (v : ViewGhosts V) (c : ConditionGhosts C) (n : ℕ) (o : Opens) (m : Coins) (l : Ledger V C v) : Type 0 where
+pub record Waits {V C : Type 0} (v : ViewGhosts V) (c : ConditionGhosts C) (n : ℕ) (o : Opens) (m : Coins) (l : Ledger V C) : Type 0 where
   pub started : started l ≡ false
   pub room : v.most l.state.view ≡ n
   pub opens : c.opens l.condition ≡ o
   pub coins : v.coins l.state.view ≡ m
 
 -- the ledger l is on a page
-abbrev pub At : {V C : Type 0} (v : ViewGhosts V) → ConditionGhosts C → Page → Ledger V C v → Type 0
+abbrev pub At : {V C : Type 0} → ViewGhosts V → ConditionGhosts C → Page → Ledger V C → Type 0
 At v c (unstarted n o m) l = Waits v c n o m l
 At v c (standing k) l = Stands v c k l
 

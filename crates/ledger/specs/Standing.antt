@@ -26,7 +26,7 @@ Unwinds t (b ∷ bs) (suc n) es =
     (below : List Record) × (back t.setting.room es (replay t (b ∷ bs)) true ≡ Some (record { previous = tip_id t bs; below = below; coins = replay t bs; clean = true })) × (length es ≡ needs b + length below) × Unwinds t bs n below
 
 -- a ledger is started once it has an active chain
-abbrev pub started : {V C : Type 0} {v : ViewGhosts V} → Ledger V C v → Bool
+abbrev pub started : {V C : Type 0} → Ledger V C → Bool
 started l = is_some l.active
 
 -- the active chain is the book's: what it was started with, its tip, and how many blocks it keeps
@@ -38,7 +38,7 @@ pub record ChainOf (k : Book) (h : ActiveChain) : Type 0 where
   pub height : h.tip.height ≡ length k.blocks
   pub kept : h.kept ≡ k.kept
 
-pub record Stands {V C : Type 0} (v : ViewGhosts V) (c : ConditionGhosts C) (k : Book) (l : Ledger V C v) : Type 0 where
+pub record Stands {V C : Type 0} (v : ViewGhosts V) (c : ConditionGhosts C) (k : Book) (l : Ledger V C) : Type 0 where
   pub active : IsSomeAnd l.active (ChainOf k)
   pub room : v.most l.state.view ≡ k.terms.setting.room
   pub opens : c.opens l.condition ≡ k.terms.setting.opens
@@ -47,7 +47,7 @@ pub record Stands {V C : Type 0} (v : ViewGhosts V) (c : ConditionGhosts C) (k :
   pub undo : Unwinds k.terms k.blocks k.kept (entries l.state.undo)
 
 -- what can be read of the ledger z, and its undo entries, are as in a
-pub record Unchanged {V C : Type 0} (v : ViewGhosts V) (a z : Ledger V C v) : Type 0 where
+pub record Unchanged {V C : Type 0} (v : ViewGhosts V) (a z : Ledger V C) : Type 0 where
   pub room : v.most z.state.view ≡ v.most a.state.view
   pub condition : z.condition ≡ a.condition
   pub coins : v.coins z.state.view ≡ v.coins a.state.view
@@ -55,9 +55,9 @@ pub record Unchanged {V C : Type 0} (v : ViewGhosts V) (a z : Ledger V C v) : Ty
   pub undo : entries z.state.undo ≡ entries a.state.undo
 
 -- a call that takes the ledger a to z and answers r follows the book: whatever book a stands by, z stands by the book after the call, and r is the book's answer
-abbrev pub Follows : {V C R : Type 0} (v : ViewGhosts V) → ConditionGhosts C → Ledger V C v → Ledger V C v → R → (Book → Book) → (Book → R) → Type 0
+abbrev pub Follows : {V C R : Type 0} → ViewGhosts V → ConditionGhosts C → Ledger V C → Ledger V C → R → (Book → Book) → (Book → R) → Type 0
 Follows v c a z r next answer = (k : Book) → Stands v c k a → Stands v c (next k) z × (r ≡ answer k)
 
 -- before the start, a call that takes the ledger a to z and answers r is refused and changes nothing
-abbrev pub Early : {V C X : Type 0} {v : ViewGhosts V} → Ledger V C v → Ledger V C v → Result X LedgerFault → Type 0
+abbrev pub Early : {V C X : Type 0} → Ledger V C → Ledger V C → Result X LedgerFault → Type 0
 Early a z r = started a ≡ false → (r ≡ Err NotStarted) × (z ≡ a)

@@ -10,7 +10,6 @@ pub mod runs;
 pub mod terms;
 
 use crate::terms::Terms;
-use coinsview::view::CoinsView;
 use unwinding::chainstate::Chainstate;
 
 // The last connected block, or the start: its identifier and height.
@@ -62,7 +61,7 @@ struct ActiveChain {
 
 // A ledger has an active chain once it is started.
 #[derive(Drop)]
-pub struct Ledger<V: CoinsView, C> {
+pub struct Ledger<V, C> {
     state: Chainstate<V>,
     condition: C,
     active: Option<ActiveChain>,

@@ -64,6 +64,8 @@ fn part(bytes: &[u8], from: usize, to: usize) -> &[u8]
 impl<V: CoinsView, C: SpendCondition> Ledger<V, C> {
     // Makes one call.
     fn make(&mut self, bytes: &[u8], call: Call) -> Answer
+        requires { V.CoinsView.ok self.old.state.view }
+        ensures ok { V.CoinsView.ok self.new.state.view }
         ensures performed { Performed V.CoinsView C.SpendCondition bytes.now call result self.old self.new }
         ensures bottom { call ≡ FlushCall → started self.old ≡ true → V.CoinsView.bottom self.new.state.view ≡ V.CoinsView.coins self.new.state.view }
     {
@@ -82,6 +84,8 @@ impl<V: CoinsView, C: SpendCondition> Ledger<V, C> {
 
     // Performs one call. Whatever calls came before it, the laws over runs hold after it too.
     pub fn perform(&mut self, bytes: &[u8], call: Call) -> Answer
+        requires { V.CoinsView.ok self.old.state.view }
+        ensures ok { V.CoinsView.ok self.new.state.view }
         ensures law { Follows V.CoinsView C.SpendCondition self.old self.new result (book_after bytes.now call) (answer_of bytes.now call) }
         ensures bottom { call ≡ FlushCall → started self.old ≡ true → V.CoinsView.bottom self.new.state.view ≡ V.CoinsView.coins self.new.state.view }
         ensures performed { Performed V.CoinsView C.SpendCondition bytes.now call result self.old self.new }
@@ -92,6 +96,8 @@ impl<V: CoinsView, C: SpendCondition> Ledger<V, C> {
 
     // Performs calls in order and notes their answers, as many as both lists have. Answers how many.
     pub fn run(&mut self, bytes: &[u8], calls: &[Call], answers: &mut [Answer]) -> usize
+        requires { V.CoinsView.ok self.old.state.view }
+        ensures ok { V.CoinsView.ok self.new.state.view }
         ensures count { result ≡ min (length calls.now) (length answers.old) }
         ensures laws { (k : Book) → Stands V.CoinsView C.SpendCondition k self.old → Laws V.CoinsView C.SpendCondition k bytes.now (take result calls.now) (take result answers.new) self.new }
         ensures page_laws { (p : Page) → At V.CoinsView C.SpendCondition p self.old → PageLaws V.CoinsView C.SpendCondition p bytes.now (take result calls.now) (take result answers.new) self.new }

@@ -130,7 +130,10 @@ pub fn perform<V: CoinsView, C: SpendCondition>(
     ledger: &mut Ledger<V, C>,
     blocks: &[Vec<u8>],
     call: Call,
-) -> Answered {
+) -> Answered
+    requires { V.CoinsView.ok ledger.old.state.view }
+    ensures { V.CoinsView.ok ledger.new.state.view }
+{
     let answer = match call {
         Call::Start(parameters) => {
             ledger.start(parameters, &id(0))?;

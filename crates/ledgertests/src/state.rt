@@ -20,7 +20,10 @@ pub struct State {
 fn coins_of<V: CoinsView, C: SpendCondition>(
     heap: Global,
     ledger: &mut Ledger<V, C>,
-) -> Result<Vec<(Outpoint, Coin)>, AllocError> {
+) -> Result<Vec<(Outpoint, Coin)>, AllocError>
+    requires { V.CoinsView.ok ledger.old.state.view }
+    ensures { V.CoinsView.ok ledger.new.state.view }
+{
     let mut coins = Vec::new(heap);
     let mut last = None;
     for _ in 0..MANY {
@@ -37,7 +40,10 @@ fn coins_of<V: CoinsView, C: SpendCondition>(
 pub fn state_of<V: CoinsView, C: SpendCondition>(
     heap: Global,
     ledger: &mut Ledger<V, C>,
-) -> Result<State, AllocError> {
+) -> Result<State, AllocError>
+    requires { V.CoinsView.ok ledger.old.state.view }
+    ensures { V.CoinsView.ok ledger.new.state.view }
+{
     let coins = coins_of(heap, ledger)?;
     Ok(State {
         tip: ledger.tip().ok(),

@@ -47,7 +47,10 @@ fn call_agrees<V: CoinsView, C: SpendCondition>(
     number: usize,
     call: Call,
     answer: Answered,
-) -> Result<(), Fail> {
+) -> Result<(), Fail>
+    requires { V.CoinsView.ok ledger.old.state.view }
+    ensures { V.CoinsView.ok ledger.new.state.view }
+{
     let before = state_of(heap, ledger)?;
     let found = perform(ledger, blocks, call);
     check(
@@ -69,7 +72,10 @@ fn agrees<V: CoinsView, C: SpendCondition>(
     ledger: &mut Ledger<V, C>,
     blocks: &[Vec<u8>],
     list: &[(Call, Answered)],
-) -> Result<(), Fail> {
+) -> Result<(), Fail>
+    requires { V.CoinsView.ok ledger.old.state.view }
+    ensures { V.CoinsView.ok ledger.new.state.view }
+{
     for (number, (call, answer)) in (1usize..).zip(list) {
         call_agrees(heap, ledger, blocks, number, *call, *answer)?;
     }

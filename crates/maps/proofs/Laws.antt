@@ -100,6 +100,10 @@ module _ {K V : Type 0} (o : Order K) where
   remove_insert k v [] h = let i = o.itself k in grind arith
   remove_insert k v (p ∷ m) h = let ih = remove_insert k v m in let i = o.itself k in grind arith
 
+  pub insert_above : (k : K) (v : V) (m : List (K × V)) → Above o k m → insert o k v m ≡ (k, v) ∷ m
+  insert_above k v [] h = refl
+  insert_above k v (p ∷ m) h = grind arith
+
   -- ---- maps with equal look-ups are equal
 
   pub look_head : (p : K × V) (m : List (K × V)) → look o p.0 (p ∷ m) ≡ Some p.1
@@ -155,6 +159,18 @@ module _ {K V : Type 0} (o : Order K) where
   insert_remove k v m s h =
       same_maps _ _ (sorted_insert k v _ (sorted_remove k m s)) s
       (λ q. let e = o.equal q k in let a = look_insert q k v (remove o k m) (sorted_remove k m s) in let b = look_remove q k m s in grind arith)
+
+  pub insert_comm : (j k : K) (u v : V) (m : List (K × V)) → Sorted o m → (j ≡ k → ⊥) → insert o j u (insert o k v m) ≡ insert o k v (insert o j u m)
+  insert_comm j k u v m s n =
+      same_maps _ _ (sorted_insert j u _ (sorted_insert k v m s)) (sorted_insert k v _ (sorted_insert j u m s))
+      (λ q.
+      let a = look_insert q j u (insert o k v m) (sorted_insert k v m s) in
+      let b = look_insert q k v m s in
+      let c = look_insert q k v (insert o j u m) (sorted_insert j u m s) in
+      let d = look_insert q j u m s in
+      let e = o.equal q k in
+      let f = o.equal q j in
+      grind arith)
 
   -- ---- a value written, or nothing
 

@@ -1,9 +1,7 @@
 -- The ledger of the run over a flat table: a cache over a table of 512 cells, opened by badge or clock.
 use Rattle.std.specs.Prelude.{◌||◌, []}
 use Rattle.coinsview.specs.declared.table.FlatTable.{FlatTable}
-use Rattle.coinsview.specs.Table.{table_view}
 use Rattle.cache.specs.declared.cache.Cache.{Cache}
-use Rattle.cache.specs.Parts.{cache_view}
 use Rattle.views.specs.Conditions.{badge_opens, clock_opens}
 use Rattle.views.specs.declared.condition.Badge.{Badge}
 use Rattle.views.specs.declared.condition.Clock.{Clock}
@@ -13,7 +11,7 @@ use Rattle.ledger.specs.declared.Ledger.{Ledger}
 use Rattle.ledger.specs.Pages.{Page, unstarted, Opens}
 
 abbrev pub FlatLedger : Type 0
-FlatLedger = Ledger (Cache FlatTable) (Either Badge Clock) (cache_view table_view)
+FlatLedger = Ledger (Cache FlatTable) (Either Badge Clock)
 
 -- a badge of kind 1 or a clock of kind 2
 abbrev pub opens_either : Opens

@@ -103,10 +103,10 @@ printout file script q = cond (nat_lt 65536 (length file)) (line_text too_long) 
 -- ---- what a part of a run does to a ledger
 
 -- Whatever page the ledger a is on and whatever calls brought it there, z is the ledger after the calls ds more, and the laws over runs hold of it.
-abbrev pub RunsOn : {V C : Type 0} (v : ViewGhosts V) → ConditionGhosts C → List ℕ → List Call → Ledger V C v → Ledger V C v → Type 0
+abbrev pub RunsOn : {V C : Type 0} → ViewGhosts V → ConditionGhosts C → List ℕ → List Call → Ledger V C → Ledger V C → Type 0
 RunsOn v c file ds a z = (q : Page) (cs : List Call) (said : List Answer) → PageLaws v c q file cs said a → (more : List Answer) × PageLaws v c q file (cs ++ ds) (said ++ more) z
 
 -- The calls ds take the ledger a to z, and the line x is what the page of a says.
-pub record PageTurn {V C : Type 0} (v : ViewGhosts V) (c : ConditionGhosts C) (file : List ℕ) (ds : List Call) (says : Page → Line) (x : Line) (a z : Ledger V C v) : Type 0 where
+pub record PageTurn {V C : Type 0} (v : ViewGhosts V) (c : ConditionGhosts C) (file : List ℕ) (ds : List Call) (says : Page → Line) (x : Line) (a z : Ledger V C) : Type 0 where
   pub line : (q : Page) → At v c q a → x ≡ says q
   pub runs : RunsOn v c file ds a z

@@ -33,6 +33,8 @@ fn perform<V: CoinsView, C: SpendCondition>(
     file: &mut FileReader<'_>,
     command: Command,
 ) -> Line
+    requires { V.CoinsView.ok ledger.old.state.view }
+    ensures ok { V.CoinsView.ok ledger.new.state.view }
     ensures file { file.new.file.now ≡ file.old.file.now }
     ensures turn { Moved file.old.file.now file.old.place file.new.place ledger.old ledger.new result command }
     ensures page { PageTurn V.CoinsView C.SpendCondition file.old.file.now (calls_for file.old.file.now file.old.place command) (line_for file.old.file.now file.old.place command) result ledger.old ledger.new }
@@ -118,6 +120,8 @@ pub fn answer_line<V: CoinsView, C: SpendCondition>(
     number: u64,
     line: Option<&[u8]>,
 ) -> Line
+    requires { V.CoinsView.ok ledger.old.state.view }
+    ensures ok { V.CoinsView.ok ledger.new.state.view }
     ensures file { file.new.file.now ≡ file.old.file.now }
     ensures turn { Turn file.old.file.now number file.old.place file.new.place ledger.old ledger.new result (parsed (held line.entry)) }
     ensures place { file.new.place ≡ turn_place file.old.file.now file.old.place (parsed (held line.entry)) }

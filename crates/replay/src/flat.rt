@@ -29,7 +29,7 @@ pub fn printout_over_flat_table<'a>(
 ) -> Result<String, AllocError>
     ensures text { IfOk result (λ t. Printed blocks.now script.now (string_bytes t)) }
     ensures page { IfOk result (λ t. string_bytes t ≡ printout blocks.now script.now first_page) }
-    ensures laws { OnOk result ((l : FlatLedger) × (said : List Said) × PageLaws (cache_view table_view) badge_or_clock first_page blocks.now (script_calls blocks.now script.now) said l) }
+    ensures laws { OnOk result ((l : FlatLedger) × (said : List Said) × (cache_view table_view).ok l.state.view × PageLaws (cache_view table_view) badge_or_clock first_page blocks.now (script_calls blocks.now script.now) said l) }
 {
     let mut cells = vec![in heap; EMPTY_CELL; CELLS]?;
     let view = Cache::new(FlatTable::new(&mut cells));

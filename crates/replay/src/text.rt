@@ -19,6 +19,8 @@ pub fn printout_of<'a, V: CoinsView, C: SpendCondition>(
     script: &'a [u8],
     ledger: &mut Ledger<V, C>,
 ) -> Result<String, AllocError>
+    requires { V.CoinsView.ok ledger.old.state.view }
+    ensures ok { V.CoinsView.ok ledger.new.state.view }
     ensures text { IfOk result (λ t. Printed blocks.now script.now (string_bytes t)) }
     ensures page { (q : Page) → At V.CoinsView C.SpendCondition q ledger.old → IfOk result (λ t. string_bytes t ≡ printout blocks.now script.now q) }
     ensures laws { OnOk result (RunsOn V.CoinsView C.SpendCondition blocks.now (script_calls blocks.now script.now) ledger.old ledger.new) }

@@ -1,3 +1,4 @@
 mod Digits
 mod Formed
+mod Grows
 mod Written

@@ -27,7 +27,9 @@ fn spend<V: CoinsView, C: SpendCondition>(
     at: Outpoint,
     witness: &[u8],
 ) -> Result<Coin, InputFault>
-    requires { length (entries state.old.undo) < 512 }
+    requires well { V.CoinsView.ok state.old.view }
+    requires room { length (entries state.old.undo) < 512 }
+    ensures well { V.CoinsView.ok state.new.view }
     ensures value { result ≡ spendBy (C.SpendCondition.opens site.now.condition.now) site.now.maturity site.now.height (coin_at at (V.CoinsView.coins state.old.view)) witness.now }
     ensures map { V.CoinsView.coins state.new.view ≡ (if is_ok result then without at (V.CoinsView.coins state.old.view) else V.CoinsView.coins state.old.view) }
     ensures taken { TakenBack V.CoinsView state.old state.new }
@@ -54,7 +56,9 @@ pub fn spend_inputs<V: CoinsView, C: SpendCondition>(
     site: &Site<'_, C>,
     inputs: Items<'_>,
 ) -> Result<u64, TransactionFault>
-    requires { length (entries state.old.undo) + length (inputs_in (items_of inputs)) ≤ 512 }
+    requires well { V.CoinsView.ok state.old.view }
+    requires room { length (entries state.old.undo) + length (inputs_in (items_of inputs)) ≤ 512 }
+    ensures well { V.CoinsView.ok state.new.view }
     ensures value { Answers (spent C.SpendCondition.opens site.now (inputs_in (items_of inputs.entry)) (V.CoinsView.coins state.old.view)) result (V.CoinsView.coins state.new.view) }
     ensures taken { TakenBack V.CoinsView state.old state.new }
     ensures long { OnOk result (length (entries state.new.undo) ≡ length (entries state.old.undo) + length (inputs_in (items_of inputs.entry))) }
@@ -118,7 +122,9 @@ fn make<V: CoinsView>(
     at: Outpoint,
     coin: Option<Coin>,
 ) -> Result<(), TransactionFault>
-    requires { length (entries state.old.undo) < 512 }
+    requires well { V.CoinsView.ok state.old.view }
+    requires room { length (entries state.old.undo) < 512 }
+    ensures well { V.CoinsView.ok state.new.view }
     ensures value { MatchResult result (λ _. makeBy (V.CoinsView.most state.old.view) at.id at.index coin (V.CoinsView.coins state.old.view) ≡ Ok (V.CoinsView.coins state.new.view)) (λ f. makeBy (V.CoinsView.most state.old.view) at.id at.index coin (V.CoinsView.coins state.old.view) ≡ Err f) }
     ensures taken { TakenBack V.CoinsView state.old state.new }
     ensures long { OnOk result (length (entries state.new.undo) ≡ length (entries state.old.undo) + 1) }
@@ -138,14 +144,16 @@ fn make<V: CoinsView>(
 }
 
 // Puts the coins of a transaction's outputs in order, those of kind 0 aside. Answers how many were made and what was burned.
-pub fn make_outputs<V: CoinsView, C: SpendCondition>(
+pub fn make_outputs<V: CoinsView, C>(
     state: &mut Chainstate<V>,
     site: &Site<'_, C>,
     tx: &Transaction<'_>,
     coinbase: bool,
 ) -> Result<Sums, TransactionFault>
+    requires well { V.CoinsView.ok state.old.view }
     requires money { worthOf (outputs_in (items_of tx.now.outputs)) ≤ 2100000000000000 }
     requires room { length (entries state.old.undo) + coins_made (outputs_in (items_of tx.now.outputs)) ≤ 512 }
+    ensures well { V.CoinsView.ok state.new.view }
     ensures value { Answers (made (V.CoinsView.most state.old.view) site.now tx.now.id.now coinbase (outputs_in (items_of tx.now.outputs)) (V.CoinsView.coins state.old.view)) result (V.CoinsView.coins state.new.view) }
     ensures taken { TakenBack V.CoinsView state.old state.new }
     ensures long { OnOk result (length (entries state.new.undo) ≡ length (entries state.old.undo) + coins_made (outputs_in (items_of tx.now.outputs))) }

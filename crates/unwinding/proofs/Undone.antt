@@ -32,14 +32,14 @@ module _ (room : ℕ) (es : List Record) (k : Outpoint) (c : Coin) (m : Coins) w
       ∙ ap (λ n. back room es n true) (remove_insert outpoints k c m none)
 
 -- a coin that was taken, or put, and noted
-module _ {V : Type 0} (v : Ghosts V) (a b : Chainstate V v) (k : Outpoint) (c : Coin) (fixed : v.most b.view ≡ v.most a.view) (less : length (entries a.undo) < 512) where
+module _ {V : Type 0} (v : Ghosts V) (a b : Chainstate V) (k : Outpoint) (c : Coin) (fixed : v.most b.view ≡ v.most a.view) (less : length (entries a.undo) < 512) where
   noted : (r : Record) → entries b.undo ≡ pushed r (entries a.undo) → entries b.undo ≡ r ∷ entries a.undo
   noted r e = e ∙ ap (λ x. cond x (r ∷ entries a.undo) (entries a.undo)) (lt-ltb _ _ less)
 
-  pub spent_noted : v.coins b.view ≡ without k (v.coins a.view) → entries b.undo ≡ pushed (Spent k c) (entries a.undo) → coin_at k (v.coins a.view) ≡ Some c → TakenBack v a b
-  spent_noted map after here = record {
+  pub spent_noted : v.ok a.view → v.coins b.view ≡ without k (v.coins a.view) → entries b.undo ≡ pushed (Spent k c) (entries a.undo) → coin_at k (v.coins a.view) ≡ Some c → TakenBack v a b
+  spent_noted well map after here = record {
     fixed = fixed;
-    back = rw (noted (Spent k c) after, map) (spent_back (v.most a.view) (entries a.undo) k c (v.coins a.view) (v.sorted a.view a.well) (v.few a.view a.well) here);
+    back = rw (noted (Spent k c) after, map) (spent_back (v.most a.view) (entries a.undo) k c (v.coins a.view) (v.sorted a.view well) (v.few a.view well) here);
   }
 
   pub made_noted : v.coins b.view ≡ with_coin k c (v.coins a.view) → entries b.undo ≡ pushed (Made k c) (entries a.undo) → coin_at k (v.coins a.view) ≡ None → TakenBack v a b
@@ -49,7 +49,7 @@ module _ {V : Type 0} (v : Ghosts V) (a b : Chainstate V v) (k : Outpoint) (c : 
   }
 
 -- one step and then another
-pub taken_twice : {V : Type 0} (v : Ghosts V) (a b c : Chainstate V v) → TakenBack v a b → TakenBack v b c → TakenBack v a c
+pub taken_twice : {V : Type 0} (v : Ghosts V) (a b c : Chainstate V) → TakenBack v a b → TakenBack v b c → TakenBack v a c
 taken_twice v a b c s t = record {
   fixed = t.fixed ∙ s.fixed;
   back = subst (λ room. back room (entries c.undo) (v.coins c.view) true ≡ back room (entries b.undo) (v.coins b.view) true) s.fixed t.back ∙ s.back;

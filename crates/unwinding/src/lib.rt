@@ -21,6 +21,8 @@ pub struct Unwound {
 impl<V: CoinsView> Chainstate<V> {
     // Takes one entry back: a coin that was made is taken, one that was spent is put. Says whether it was found as it was left.
     fn take_back(&mut self, entry: &Record) -> bool
+        requires { V.CoinsView.ok self.old.view }
+        ensures well { V.CoinsView.ok self.new.view }
         ensures fixed { V.CoinsView.most self.new.view ≡ V.CoinsView.most self.old.view }
         ensures kept { self.new.undo ≡ self.old.undo }
         ensures value { result ≡ found (V.CoinsView.most self.old.view) entry.now (V.CoinsView.coins self.old.view) }
@@ -35,6 +37,8 @@ impl<V: CoinsView> Chainstate<V> {
 
     // Works from the newest entry to the first mark, and frees them. None where there is no mark.
     pub fn unwind(&mut self) -> Option<Unwound>
+        requires { V.CoinsView.ok self.old.view }
+        ensures well { V.CoinsView.ok self.new.view }
         ensures fixed { V.CoinsView.most self.new.view ≡ V.CoinsView.most self.old.view }
         ensures value { MatchOption result ((back (V.CoinsView.most self.old.view) (entries self.old.undo) (V.CoinsView.coins self.old.view) true ≡ None) × (entries self.new.undo ≡ [])) (λ u. back (V.CoinsView.most self.old.view) (entries self.old.undo) (V.CoinsView.coins self.old.view) true ≡ Some (record { previous = u.previous; below = entries self.new.undo; coins = V.CoinsView.coins self.new.view; clean = u.clean })) }
     {

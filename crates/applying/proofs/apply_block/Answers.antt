@@ -22,7 +22,7 @@ make_outputs-requires g c =
     let us = transactions_of c.next.new.self in
     let o = opened c.in-Some.first h.0 (block_of c.args.block.now).transactions us h.1 (sym c.transactions-others.ensures.all ∙ h.2) in
     let moneyed : All Moneyed (value_of c.in-Some.first ∷ us) = rw o.is at c.requires.money in
-    record { money = moneyed.0; room = omega (arith, ap transactions_needs o.is, c.requires.room) }
+    record { well = c.requires.well; money = moneyed.0; room = omega (arith, ap transactions_needs o.is, c.requires.room) }
 
 pub returns-in_err-coinbase-clause-value : goal.returns-in_err-coinbase-clause-value
 returns-in_err-coinbase-clause-value g c =
@@ -45,7 +45,7 @@ apply_others-requires g c =
     let moneyed : All Moneyed (value_of c.in-Some.first ∷ us) = rw o.is at c.requires.money in
     let is = placed_ok c.make_outputs.result c.map_err.result _ c.in_ok-coinbase.coinbase c.map_err.ensures.cases c.in_ok-coinbase.was in
     let long : length (entries c.make_outputs.new.state.undo) ≡ length (entries c.args.state.now.undo) + coins_made (value_of c.in-Some.first).outputs = rw is at c.make_outputs.ensures.long in
-    record { money = moneyed.1; room = omega (arith, ap transactions_needs o.is, c.requires.room, long) }
+    record { well = c.make_outputs.ensures.well; money = moneyed.1; room = omega (arith, ap transactions_needs o.is, c.requires.room, long) }
 
 pub returns-in_err-apply_others-clause-value : goal.returns-in_err-apply_others-clause-value
 returns-in_err-apply_others-clause-value g c =

@@ -27,7 +27,7 @@ apply_spending-requires g c =
     let h = c.in-Some.ensures.steps.0 in
     let o = opened c.in-Some.tx h.0 (transactions_of l.before-iterator.iter) (transactions_of c.next.new.self.iter) h.1 h.2 in
     let moneyed : All Moneyed (value_of c.in-Some.tx ∷ transactions_of c.next.new.self.iter) = rw o.is at l.invariant.money in
-    record { whole = o.whole; money = moneyed.0; room = omega (arith, ap others_needs o.is, l.invariant.long, c.requires.room) }
+    record { well = l.invariant.well; whole = o.whole; money = moneyed.0; room = omega (arith, ap others_needs o.is, l.invariant.long, c.requires.room) }
 
 pub loop-before-preserved : goal.loop-before-preserved
 loop-before-preserved g c =
@@ -48,6 +48,7 @@ loop-before-preserved g c =
     let k = setting (v.most s.view) g.C.SpendCondition.opens a.site.now in
     let value : spending k a.site.now.height x (v.coins l.state.view) ≡ Ok (v.coins c.apply_spending.new.state.view, one) = rw (is, l.invariant.taken.fixed) at e.value in
     rw (c.add-sums.ensures, c.in-Some.ensures.steps.2) (record {
+      well = e.well;
       taken = taken_twice v s l.state c.apply_spending.new.state l.invariant.taken e.taken;
       count = omega (arith, l.invariant.count, ap length o.is);
       money = moneyed.1;

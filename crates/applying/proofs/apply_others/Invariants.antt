@@ -17,6 +17,7 @@ invariant-loop-before g l =
     let t = l.before-iterator.count in
     let left = transactions_of l.before-iterator.iter in
     record {
+      well : v.ok l.state.view;
       taken : TakenBack v s l.state;
       count : t + length left ≤ 64;
       money : All Moneyed left;

@@ -25,7 +25,9 @@ use views::condition::SpendCondition;
 impl<V: CoinsView, C: SpendCondition> Ledger<V, C> {
     // Connects a block to the tip, or says why not.
     fn connect_block(&mut self, chain: ActiveChain, bytes: &[u8]) -> Result<Connected, BlockFault>
-        requires { self.old.active ≡ Some chain }
+        requires well { V.CoinsView.ok self.old.state.view }
+        requires active { self.old.active ≡ Some chain }
+        ensures ok { V.CoinsView.ok self.new.state.view }
         ensures law { Follows V.CoinsView C.SpendCondition self.old self.new result (λ k. connected k bytes.now) (λ k. told k (connect_bytes k bytes.now)) }
         ensures same { is_ok result ≡ false → Unchanged V.CoinsView self.old self.new }
     {
@@ -59,6 +61,8 @@ impl<V: CoinsView, C: SpendCondition> Ledger<V, C> {
 
     // Connects the block that the bytes are.
     pub fn connect(&mut self, bytes: &[u8]) -> Result<Connected, LedgerFault>
+        requires { V.CoinsView.ok self.old.state.view }
+        ensures ok { V.CoinsView.ok self.new.state.view }
         ensures early { Early self.old self.new result }
         ensures law { Follows V.CoinsView C.SpendCondition self.old self.new result (λ k. connected k bytes.now) (λ k. connect_answer k bytes.now) }
         ensures same { is_ok result ≡ false → Unchanged V.CoinsView self.old self.new }
@@ -69,6 +73,8 @@ impl<V: CoinsView, C: SpendCondition> Ledger<V, C> {
 
     // Takes the last block back, by its undo entries.
     pub fn disconnect(&mut self) -> Result<Disconnected, LedgerFault>
+        requires { V.CoinsView.ok self.old.state.view }
+        ensures ok { V.CoinsView.ok self.new.state.view }
         ensures early { Early self.old self.new result }
         ensures law { Follows V.CoinsView C.SpendCondition self.old self.new result disconnected disconnect_answer }
         ensures same { (k : Book) → Stands V.CoinsView C.SpendCondition k self.old → is_ok result ≡ false → Unchanged V.CoinsView self.old self.new }
@@ -96,6 +102,8 @@ impl<V: CoinsView, C: SpendCondition> Ledger<V, C> {
 
     // Keeps the undo entries of the newest n blocks, frees the others, and answers how many blocks are kept.
     pub fn settle(&mut self, n: u64) -> Result<u64, LedgerFault>
+        requires { V.CoinsView.ok self.old.state.view }
+        ensures ok { V.CoinsView.ok self.new.state.view }
         ensures early { Early self.old self.new result }
         ensures law { Follows V.CoinsView C.SpendCondition self.old self.new result (λ k. settled k n) (λ k. Ok (min n k.kept)) }
     {
@@ -120,8 +128,10 @@ fn apply<V: CoinsView, C: SpendCondition>(
     site: &Site<'_, C>,
     block: &Block<'_>,
 ) -> Result<Sums, BlockFault>
+    requires well { V.CoinsView.ok state.old.view }
     requires money { All Moneyed (block_of block.now).transactions }
     requires room { length (entries state.old.undo) + needsOf (block_of block.now) ≤ 512 }
+    ensures well { V.CoinsView.ok state.new.view }
     ensures fixed { V.CoinsView.most state.new.view ≡ V.CoinsView.most state.old.view }
     ensures value { MatchResult result (λ a. effect (setting (V.CoinsView.most state.old.view) C.SpendCondition.opens site.now) site.now.height (block_of block.now).transactions (V.CoinsView.coins state.old.view) ≡ Ok (V.CoinsView.coins state.new.view, a)) (λ f. (effect (setting (V.CoinsView.most state.old.view) C.SpendCondition.opens site.now) site.now.height (block_of block.now).transactions (V.CoinsView.coins state.old.view) ≡ Err f) × (V.CoinsView.coins state.new.view ≡ V.CoinsView.coins state.old.view) × (entries state.new.undo ≡ entries state.old.undo)) }
     ensures kept { OnOk result ((back (V.CoinsView.most state.old.view) (entries state.new.undo) (V.CoinsView.coins state.new.view) true ≡ Some (record { previous = (block_of block.now).previous; below = entries state.old.undo; coins = V.CoinsView.coins state.old.view; clean = true })) × (length (entries state.new.undo) ≡ needsOf (block_of block.now) + length (entries state.old.undo))) }

@@ -15,6 +15,8 @@ use views::condition::SpendCondition;
 impl<V: CoinsView, C: SpendCondition> Ledger<V, C> {
     // Makes the base at the foot hold the coins.
     pub fn flush(&mut self) -> Result<(), LedgerFault>
+        requires { V.CoinsView.ok self.old.state.view }
+        ensures ok { V.CoinsView.ok self.new.state.view }
         ensures early { Early self.old self.new result }
         ensures law { Follows V.CoinsView C.SpendCondition self.old self.new result (λ k. k) (λ _. Ok tt) }
         ensures same { Unchanged V.CoinsView self.old self.new }
@@ -35,6 +37,8 @@ impl<V: CoinsView, C: SpendCondition> Ledger<V, C> {
 
     // The coin at an outpoint.
     pub fn look(&mut self, at: &Outpoint) -> Result<Option<Coin>, LedgerFault>
+        requires { V.CoinsView.ok self.old.state.view }
+        ensures ok { V.CoinsView.ok self.new.state.view }
         ensures early { Early self.old self.new result }
         ensures law { Follows V.CoinsView C.SpendCondition self.old self.new result (λ k. k) (λ k. Ok (coin_at at.now (coins_of k))) }
         ensures same { Unchanged V.CoinsView self.old self.new }
@@ -45,6 +49,8 @@ impl<V: CoinsView, C: SpendCondition> Ledger<V, C> {
 
     // How many coins a lock has, and what they are worth.
     pub fn balance(&mut self, lock: &Lock) -> Result<Balance, LedgerFault>
+        requires { V.CoinsView.ok self.old.state.view }
+        ensures ok { V.CoinsView.ok self.new.state.view }
         ensures early { Early self.old self.new result }
         ensures law { Follows V.CoinsView C.SpendCondition self.old self.new result (λ k. k) (λ k. Ok (held_by lock.now (coins_of k))) }
         ensures same { Unchanged V.CoinsView self.old self.new }
@@ -55,6 +61,8 @@ impl<V: CoinsView, C: SpendCondition> Ledger<V, C> {
 
     // The least outpoint above the given one, or of all, with its coin.
     pub fn next(&mut self, from: Option<&Outpoint>) -> Result<Option<(Outpoint, Coin)>, LedgerFault>
+        requires { V.CoinsView.ok self.old.state.view }
+        ensures ok { V.CoinsView.ok self.new.state.view }
         ensures early { Early self.old self.new result }
         ensures law { Follows V.CoinsView C.SpendCondition self.old self.new result (λ k. k) (λ k. Ok (next_in (option_map (λ x. x.now) from.entry) (coins_of k))) }
         ensures same { Unchanged V.CoinsView self.old self.new }

@@ -16,6 +16,7 @@ impl<V: CoinsView, C: SpendCondition> Ledger<V, C> {
     // A ledger that is not started yet.
     pub fn new(view: V, condition: C) -> Ledger<V, C>
         requires { V.CoinsView.ok view }
+        ensures ok { V.CoinsView.ok result.state.view }
         ensures parts { (result.state.view ≡ view) × (result.condition ≡ condition) × (started result ≡ false) }
         ensures page { At V.CoinsView C.SpendCondition (unstarted (V.CoinsView.most view) (C.SpendCondition.opens condition) (V.CoinsView.coins view)) result }
     {
@@ -28,6 +29,8 @@ impl<V: CoinsView, C: SpendCondition> Ledger<V, C> {
 
     // Starts the ledger over a view with no coins, once.
     pub fn start(&mut self, parameters: Parameters, id: &[u8; 32]) -> Result<(), LedgerFault>
+        requires { V.CoinsView.ok self.old.state.view }
+        ensures ok { V.CoinsView.ok self.new.state.view }
         ensures answer { result ≡ start_answer (started self.old) (in_range parameters) (length (V.CoinsView.coins self.old.state.view)) }
         ensures same { is_ok result ≡ false → self.new ≡ self.old }
         ensures begins { is_ok result ≡ true → Stands V.CoinsView C.SpendCondition (fresh (start_terms (V.CoinsView.most self.old.state.view) (C.SpendCondition.opens self.old.condition) parameters id.now)) self.new }

@@ -32,6 +32,8 @@ impl<'a> Session<'a> {
         &mut self,
         ledger: &mut Ledger<V, C>,
     ) -> Option<Line>
+        requires { V.CoinsView.ok ledger.old.state.view }
+        ensures ok { V.CoinsView.ok ledger.new.state.view }
         ensures file { self.new.file.file.now ≡ self.old.file.file.now }
         ensures turn { MatchOption result ((lines_of self.old.rest.now ≡ []) × (self.new ≡ self.old) × (ledger.new ≡ ledger.old)) (λ x. (l : Option (List ℕ)) × (lines_of self.old.rest.now ≡ l ∷ lines_of self.new.rest.now) × (self.new.number ≡ self.old.number + 1) × Turn self.old.file.file.now self.new.number self.old.file.place self.new.file.place ledger.old ledger.new x (parsed l)) }
         ensures page { MatchOption result ((lines_of self.old.rest.now ≡ []) × (self.new ≡ self.old) × (ledger.new ≡ ledger.old)) (λ x. (l : Option (List ℕ)) × (lines_of self.old.rest.now ≡ l ∷ lines_of self.new.rest.now) × (self.new.number ≡ self.old.number + 1) × (self.new.file.place ≡ turn_place self.old.file.file.now self.old.file.place (parsed l)) × PageTurn V.CoinsView C.SpendCondition self.old.file.file.now (turn_calls self.old.file.file.now self.old.file.place (parsed l)) (turn_line self.old.file.file.now (self.old.number + 1) self.old.file.place (parsed l)) x ledger.old ledger.new) }

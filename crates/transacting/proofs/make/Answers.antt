@@ -11,4 +11,4 @@ returns-clause-taken g c =
     let put = c.put.ensures in
     let is = placed_ok c.put.result c.map_err.result _ tt c.map_err.ensures.cases c.in_ok-map_err.was in
     let none : coin_at c.args.at (v.coins a.view) ≡ None = put_none (coin_at c.args.at (v.coins a.view)) _ tt (sym put.value ∙ is) in
-    made_noted v a _ c.args.at c.in_ok-coin.coin put.fixed c.requires (rw is at put.map) c.push.ensures.after none
+    made_noted v a _ c.args.at c.in_ok-coin.coin put.fixed c.requires.room (rw is at put.map) c.push.ensures.after none

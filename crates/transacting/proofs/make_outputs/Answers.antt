@@ -39,6 +39,7 @@ loop-index-preserved g c =
     let value = coin_value room h i id a.coinbase y ps qs m hands kind in
     let leaves = coin_leaves room h i id a.coinbase y ps qs m hands kind (v.coins c.make.new.state.view) (rw (l.invariant.taken.fixed, c.made_coin.ensures, t.1) at e.value) in
     rw t.2 (record {
+      well = e.well;
       taken = taken_twice v s l.state c.make.new.state l.invariant.taken e.taken;
       few = omega (arith, l.invariant.few, ap length hands);
       made = omega (arith, l.invariant.made);

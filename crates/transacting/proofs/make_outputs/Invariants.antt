@@ -15,6 +15,7 @@ invariant-loop-index g l =
     let i = l.index-iterator.count in
     let left = outputs_in (items_of l.index-iterator.iter) in
     record {
+      well : v.ok l.state.view;
       taken : TakenBack v s l.state;
       few : i + length (items_of l.index-iterator.iter) ≤ 64;
       made : l.sums.made ≤ i;

@@ -36,6 +36,7 @@ loop-item-preserved g c =
     let long : length (entries c.spend.new.state.undo) ≡ length (entries l.state.undo) + 1 = rw is at c.spend.ensures.long in
     let value = input_spent (g.C.SpendCondition.opens k.condition.now) k.maturity k.height l.item-iterator.count at c.in-Input.witness.now ps qs (v.coins l.state.view) l.paid hands coin (v.coins c.spend.new.state.view) (sym is ∙ c.spend.ensures.value) (rw is at c.spend.ensures.map) in
     rw s.2 (record {
+      well = c.spend.ensures.well;
       taken = taken_twice v c.args.state.now l.state c.spend.new.state l.invariant.taken c.spend.ensures.taken;
       few = omega (arith, l.invariant.few, ap length hands);
       worth = omega (arith, l.invariant.worth, coin.money);

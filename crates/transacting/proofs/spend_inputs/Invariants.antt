@@ -17,6 +17,7 @@ invariant-loop-item g l =
     let i = l.item-iterator.count in
     let left = inputs_in (items_of l.item-iterator.iter) in
     record {
+      well : v.ok l.state.view;
       taken : TakenBack v s l.state;
       few : i + length (items_of l.item-iterator.iter) ≤ 64;
       worth : l.paid ≤ i * 2100000000000000;

@@ -10,6 +10,7 @@ impl<V: CoinsView> Chainstate<V> {
     // The coins of a view, with no undo entries.
     pub fn new(view: V) -> Chainstate<V>
         requires { V.CoinsView.ok view }
+        ensures ok { V.CoinsView.ok result.view }
         ensures view { result.view ≡ view }
         ensures undo { entries result.undo ≡ [] }
     {

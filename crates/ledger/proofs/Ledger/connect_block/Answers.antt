@@ -18,7 +18,7 @@ returns-in_err-needed-clause-law g c =
     let p = err_from_is_err_and c.from_residual-in_err-needed.result c.from_residual-in_err-needed.ensures.1 in
     let stop = then_stopped (checks q.tip.id q.tip.height q.terms.last b) (needs b) _ (sym c.in_err-needed.was ∙ c.check_block.ensures.is) in
     λ k s.
-    let r = refused_law v o k a q c.requires s a c.args.bytes.now _ (unchanged v a a refl) (check_refused v o k a q c.requires s c.args.bytes.now b c.in_ok-block.ensures.reads _ stop) in
+    let r = refused_law v o k a q c.requires.active s a c.args.bytes.now _ (unchanged v a a refl) (check_refused v o k a q c.requires.active s c.args.bytes.now b c.in_ok-block.ensures.reads _ stop) in
     (r.0, p.1 ∙ ap Err p.2 ∙ r.1)
 
 pub returns-then-needed-free-clause-law : goal.returns-then-needed-free-clause-law
@@ -31,7 +31,7 @@ returns-then-needed-free-clause-law g c =
     let pass = then_passed (checks q.tip.id q.tip.height q.terms.last b) (needs b) _ (sym c.in_ok-needed.was ∙ c.check_block.ensures.is) in
     let less : 512 - length (entries a.state.undo) < needs b = omega (arith, pass.1, c.free.ensures, c.if-needed-free.true) in
     λ k s.
-    refused_law v o k a q c.requires s a c.args.bytes.now _ (unchanged v a a refl) (full_refused v o k a q c.requires s c.args.bytes.now b c.in_ok-block.ensures.reads pass.0 less)
+    refused_law v o k a q c.requires.active s a c.args.bytes.now _ (unchanged v a a refl) (full_refused v o k a q c.requires.active s c.args.bytes.now b c.in_ok-block.ensures.reads pass.0 less)
 
 pub apply-requires-clause-money : goal.apply-requires-clause-money
 apply-requires-clause-money g c =
@@ -59,7 +59,7 @@ returns-in_err-sums-clause-law g c =
     let free : needs b ≤ 512 - length (entries a.state.undo) = omega (arith, pass.1, c.free.ensures, c.if-needed-free.false) in
     let e = c.in_err-sums.ensures in
     λ k s.
-    let r = refused_law v o k a q c.requires s _ c.args.bytes.now _ (record { room = e.fixed; condition = refl; coins = e.value.1; active = refl; undo = e.value.2 }) (effect_refused v o k a q c.requires s c.args.bytes.now b c.in_ok-block.ensures.reads pass.0 free _ e.value.0) in
+    let r = refused_law v o k a q c.requires.active s _ c.args.bytes.now _ (record { room = e.fixed; condition = refl; coins = e.value.1; active = refl; undo = e.value.2 }) (effect_refused v o k a q c.requires.active s c.args.bytes.now b c.in_ok-block.ensures.reads pass.0 free _ e.value.0) in
     (r.0, p.1 ∙ ap Err p.2 ∙ r.1)
 
 pub returns-clause-law : goal.returns-clause-law
@@ -74,5 +74,5 @@ returns-clause-law g c =
     let free : needs b ≤ 512 - length (entries a.state.undo) = omega (arith, pass.1, c.free.ensures, c.if-needed-free.false) in
     let e = c.in_ok-sums.ensures in
     λ k s.
-    let f = effect_accepted v o k a q c.requires s c.args.bytes.now b c.in_ok-block.ensures.reads pass.0 free _ _ e.value in
-    accepted_law v o k a q c.requires s _ _ c.args.bytes.now b _ _ f.0 f.1 say.0 e.fixed refl refl refl refl c.id-id.ensures refl refl e.kept.0 e.kept.1
+    let f = effect_accepted v o k a q c.requires.active s c.args.bytes.now b c.in_ok-block.ensures.reads pass.0 free _ _ e.value in
+    accepted_law v o k a q c.requires.active s _ _ c.args.bytes.now b _ _ f.0 f.1 say.0 e.fixed refl refl refl refl c.id-id.ensures refl refl e.kept.0 e.kept.1

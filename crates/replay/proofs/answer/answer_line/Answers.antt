@@ -14,6 +14,7 @@ returns-in-Some g c =
     let l = c.args.ledger.now in
     let z = c.perform.new.ledger in
     record {
+      ok = e.ok;
       file = e.file;
       turn = subst (λ y. Turn a.file.now c.args.number a.place b.place l z x y) is e.turn;
       place = e.turn.place ∙ ap (turn_place a.file.now a.place) is;

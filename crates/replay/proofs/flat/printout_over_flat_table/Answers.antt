@@ -33,6 +33,6 @@ returns c =
     record {
       text = e.text;
       page = e.page first_page begun;
-      laws = so c.printout_of.result (RunsOn (cache_view table_view) badge_or_clock bytes calls l z) ((x : FlatLedger) × (said : List Answer) × PageLaws (cache_view table_view) badge_or_clock first_page bytes calls said x)
-          (λ run. let w = run first_page [] [] (laws_none (cache_view table_view) badge_or_clock first_page bytes l begun) in (z, w.0, w.1)) e.laws;
+      laws = so c.printout_of.result (RunsOn (cache_view table_view) badge_or_clock bytes calls l z) ((x : FlatLedger) × (said : List Answer) × (cache_view table_view).ok x.state.view × PageLaws (cache_view table_view) badge_or_clock first_page bytes calls said x)
+          (λ run. let w = run first_page [] [] (laws_none (cache_view table_view) badge_or_clock first_page bytes l begun) in (z, w.0, e.ok, w.1)) e.laws;
     }

@@ -9,6 +9,7 @@ abbrev pub invariant-loop-line : goal.invariant-loop-line
 invariant-loop-line g l =
     let v = g.V.CoinsView in
     let c = g.C.SpendCondition in
+    v.ok l.ledger.state.view ×
     (length l.blocks ≤ 65536) ×
     (l.session.file.file.now ≡ l.blocks) ×
     Collected (string_bytes l.text) (lines_of l.session.rest.now) (length (lines_of l.script)) ×

@@ -8,6 +8,7 @@ abbrev pub invariant-loop-entry : goal.invariant-loop-entry
 invariant-loop-entry g l =
     let v = g.V.CoinsView in
     let s = l.initial.self in
+    v.ok l.self.view ×
     (v.most l.self.view ≡ v.most s.view) ×
     (back (v.most s.view) (entries s.undo) (v.coins s.view) true ≡ back (v.most s.view) (entries l.self.undo) (v.coins l.self.view) l.clean)
 
