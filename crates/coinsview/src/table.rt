@@ -64,8 +64,7 @@ impl FlatTable<'_> {
         &self.cells[0..self.used]
     }
 
-    // The place of k among the used cells, as `Ok` where it has a coin. Called, as the search of a cache's entries is.
-    #[inline(never)]
+    // The place of k among the used cells, as `Ok` where it has a coin.
     fn find(&self, k: &Outpoint) -> Result<usize, usize>
         requires { table_view.ok self.now }
         ensures found { Found outpoints k.now (coins_of self.now) result }
