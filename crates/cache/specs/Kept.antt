@@ -3,6 +3,7 @@ use Rattle.std.specs.Prelude.{◌≡◌, ℕ, ◌≤◌, length}
 use Rattle.maps.specs.Maps.{Sorted}
 use Rattle.maps.specs.Layers.{Flags}
 use Rattle.maps.specs.Keyed.{outpoints}
+use Rattle.std.proofs.Props.{props}
 use Rattle.maps.proofs.Layered.{sorted_laid}
 use Rattle.coinsview.specs.Meaning.{Coins}
 use Rattle.entries.specs.Entries.{Entries}
@@ -17,3 +18,6 @@ pub record Kept (es : Entries) (n : ℕ) (m : Coins) (most : ℕ) : Type 0 where
 
 pub sorted_over : (es : Entries) (m : Coins) → Sorted outpoints m → Sorted outpoints (over_below es m)
 sorted_over es m s = sorted_laid outpoints marks es m s
+
+pub kept_single : (es : Entries) (n : ℕ) (m : Coins) (most : ℕ) → IsProp (Kept es n m most)
+kept_single es n m most = Prim.hlevel props

@@ -5,6 +5,8 @@ use Rattle.coins.specs.declared.coin.Coin.{Coin}
 use Rattle.coins.specs.declared.outpoint.Outpoint.{Outpoint}
 use Rattle.maps.specs.Maps.{Sorted}
 use Rattle.maps.specs.Keyed.{outpoints}
+use Rattle.maps.specs.Single.{sorted_single}
+use Rattle.std.proofs.Props.{props}
 use Rattle.coinsview.specs.Kept.{take_few}
 use Rattle.coinsview.specs.Meaning.{Coins}
 use Rattle.coinsview.specs.declared.table.FlatTable.{FlatTable}
@@ -30,6 +32,10 @@ pub record TableOk (used : ℕ) (cells : Coins) : Type 0 where
   pub within : used ≤ length cells
   pub small : length cells ≤ 4096
   pub sorted : Sorted outpoints (used_cells used cells)
+
+-- a table's being in order has one proof at most, so that a ghost field can hold it
+pub table_single : (used : ℕ) (cells : Coins) → IsProp (TableOk used cells)
+table_single used cells = Prim.hlevel (props, sorted_single outpoints (used_cells used cells))
 
 abbrev pub table_view : Ghosts FlatTable
 table_view = record {
